@@ -62,7 +62,7 @@ impl<T: Release> Deep<T> {
         value
     }
 
-    /// Moves the value into a box. Where memory is refused for the box, the value is dropped.
+    /// Moves the value into a box. If the allocation fails, the value is dropped.
     pub fn into_box(self, alloc: Global) -> Result<Deep<Box<T>>, AllocError>
         ensures { IfOk result (λ boxed. boxed.value.value ≡ self.value) }
     {
@@ -77,7 +77,7 @@ impl<T: Release> Deep<T> {
 }
 
 impl<T: Release> Deep<Vec<T>> {
-    /// Pushes a value. Where memory is refused, the value is dropped and the list is unchanged.
+    /// Pushes `item`. If the allocation fails, `item` is dropped and the list is unchanged.
     pub fn push(&mut self, item: Deep<T>) -> Result<(), AllocError>
         ensures pushed { OnOk result (self.new.value.items ≡ self.old.value.items ++ (item.value ∷ [])) }
         ensures unchanged { OnErr result (self.new.value.items ≡ self.old.value.items) }

@@ -41,11 +41,11 @@ pub struct Point {
 #[derive(Clone, Copy)]
 pub struct Extent {
     pub width: u64,
-    /// The height above the rail where it enters.
+    /// The height above the entering rail.
     pub ascent: u64,
-    /// The height below the rail where it enters.
+    /// The height below the entering rail.
     pub descent: u64,
-    /// How far the rail leaves the box below the height where it enters.
+    /// The distance from the height of the entering rail down to that of the leaving rail.
     pub exit_y: u64,
 }
 
@@ -53,7 +53,7 @@ pub struct Extent {
 #[derive(Drop)]
 pub struct LayoutBox {
     pub content: BoxContent,
-    /// The text in the box, in its frame or at its rail back; empty where there is none.
+    /// The text in the box, in its frame or at its rail back; empty if there is none.
     pub label: String,
     /// The indices of its children.
     pub children: Vec<usize>,
@@ -65,7 +65,7 @@ pub struct LayoutBox {
 pub struct Layout {
     /// The boxes, each after its children.
     pub boxes: Vec<LayoutBox>,
-    /// For each box where its rail enters, from where that of its parent enters.
+    /// For each box the point at which its rail enters, relative to that of its parent.
     pub offsets: Vec<Point>,
 }
 
@@ -91,7 +91,7 @@ impl Extent {
         exit_y: 0,
     };
 
-    /// Where the rail leaves a box of this space, if it enters at a point.
+    /// Returns the point at which the rail leaves a box of this extent, if it enters at `entry`.
     pub fn exit(&self, entry: Point) -> Point
         ensures x { result.x ≡ capped (entry.x + self.now.width) }
         ensures y { result.y ≡ capped (entry.y + self.now.exit_y) }
@@ -115,7 +115,7 @@ impl Extent {
     }
 }
 
-/// The children of a box, and where their rails enter, where `entries` has that of each box.
+/// Returns the children of a box, each with the point at which its rail enters. `entries` has these points.
 pub fn children_at<'b>(
     alloc: Global,
     boxes: &'b [LayoutBox],
@@ -132,7 +132,7 @@ pub fn children_at<'b>(
     Ok(children)
 }
 
-/// Adds the box of an index, and where its rail enters, if there are both.
+/// Adds the box with this index, and the point at which its rail enters, if there are both.
 fn push_child<'b>(
     boxes: &'b [LayoutBox],
     entries: &[Point],
@@ -149,7 +149,7 @@ fn push_child<'b>(
     }
 }
 
-/// Adds a box and where its rail enters, if this is known.
+/// Adds a box and the point at which its rail enters, if that is known.
 fn push_with_entry<'b>(
     child: &'b LayoutBox,
     entry: Option<Point>,

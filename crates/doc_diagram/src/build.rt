@@ -14,7 +14,7 @@ use base_ast::ast::Expr;
 use std::alloc::{AllocError, Global};
 use std::collections::HashMap;
 
-/// The number of alternatives below one another; where there are more, they are in columns.
+/// The greatest number of alternatives below one another. If there are more, they are in columns.
 const COLUMN_HEIGHT: usize = 16;
 /// The number of columns side by side.
 const COLUMN_COUNT: usize = 4;
@@ -24,7 +24,7 @@ const COLUMN_COUNT: usize = 4;
 enum BuildStep<'e> {
     /// Builds the box of an expression.
     Visit(&'e Expr),
-    /// Builds a box around the last so many boxes that have no parent yet.
+    /// Builds a box around the last boxes that have no parent yet. The number says how many.
     Enclose(BoxContent, Caption<'e>, usize),
     /// Builds a rail alone.
     Bypass,
@@ -48,7 +48,7 @@ struct BoxBuilder<'e> {
     steps: Vec<BuildStep<'e>>,
 }
 
-/// Builds the boxes of an expression, where `rules` has the numbers of rules by their names. The last box is
+/// Builds the boxes of an expression. `rules` has the indexes of the rules by their names. The last box is
 /// that of the whole expression. The only error is an allocation failure.
 pub fn build_boxes(
     alloc: Global,
@@ -256,7 +256,7 @@ impl<'e> BoxBuilder<'e> {
         Ok(())
     }
 
-    /// Encloses the last so many boxes that have no parent yet; alternatives in columns where there are many.
+    /// Encloses the last `count` boxes that have no parent yet; alternatives in columns where there are many.
     fn enclose_roots(
         &mut self,
         content: BoxContent,

@@ -16,7 +16,7 @@ use std::collections::HashMap;
 /// The space around a diagram.
 const MARGIN: u64 = 12;
 
-/// Where the style of a diagram is.
+/// The place of the style of a diagram: in it, or in the page.
 #[derive(Clone, Copy)]
 pub enum DiagramStyle {
     /// In the page around it.
@@ -25,7 +25,7 @@ pub enum DiagramStyle {
     Own,
 }
 
-/// Returns the diagram of an expression, an element `svg`, where `rules` has the numbers of rules by their
+/// Returns the diagram of an expression, an element `svg`. `rules` has the indexes of the rules by their
 /// names. Calls of rules link to them. The only error is an allocation failure.
 pub fn draw_diagram<'t>(
     alloc: Global,
@@ -67,7 +67,7 @@ fn draw(
     markup.close(Tag::Svg)
 }
 
-/// Draws boxes, where the rail of the whole enters at a point.
+/// Draws boxes. The rail of the whole enters at `start`.
 fn draw_boxes(
     alloc: Global,
     layout: &Layout,
@@ -86,7 +86,7 @@ fn draw_boxes(
     Ok(())
 }
 
-/// Finds where the rail of each box enters, if that of the last box enters at a point.
+/// Finds the point at which the rail of each box enters, if that of the last box enters at `start`.
 fn find_entries(alloc: Global, layout: &Layout, start: Point) -> Result<Vec<Point>, AllocError> {
     let mut entries = vec![in alloc; start; layout.boxes.len()]?;
     for (index, parent) in layout.boxes.iter().enumerate().rev() {
@@ -97,7 +97,7 @@ fn find_entries(alloc: Global, layout: &Layout, start: Point) -> Result<Vec<Poin
     Ok(entries)
 }
 
-/// Sets where the rails of children enter, if that of their parent enters at a point.
+/// Sets the points at which the rails of children enter, if that of their parent enters at `parent`.
 fn set_entries(offsets: &[Point], children: &[usize], parent: Point, entries: &mut Vec<Point>) {
     for index in children {
         if let (Some(offset), Some(entry)) = (offsets.get(*index), entries.get_mut(*index)) {
@@ -151,7 +151,7 @@ fn push_view_box(markup: &mut MarkupBuilder<'_>, width: u64, height: u64) -> Res
     markup.put(Markup::Quote)
 }
 
-/// Draws where a diagram begins and where it ends.
+/// Draws the beginning and the end of a diagram.
 fn draw_ends(markup: &mut MarkupBuilder<'_>, start: Point, end: Point) -> Result<(), AllocError>
     ensures { OnOk result (marks_of markup.new.tokens.items ≡ marks_of markup.old.tokens.items) }
 {
@@ -320,7 +320,8 @@ fn draw_group(
     push_label(markup, drawn, label)
 }
 
-/// Draws the rails from where a box is entered to where its child is, and from the child's end to its own.
+/// Draws the rails from the beginning of a box to its child, and from the end of the child to the end of the
+/// box.
 fn draw_through(
     markup: &mut MarkupBuilder<'_>,
     entry: Point,

@@ -1,4 +1,4 @@
-//! The space that each box takes, and where its children are, from their own spaces.
+//! The extent of each box and the offsets of its children, from the extents of the children.
 ghost use Rattle.std.specs.Prelude.{◌≡◌, ◌+◌, ◌*◌, ◌<◌, ◌≤◌, length, max, take, true};
 ghost use Rattle.doc_diagram.specs.Spaces.{HasRoomFor, box_width, capped, drawn_children, is_text_box, level, text_width};
 
@@ -59,7 +59,7 @@ pub fn text_width(text: &str) -> u64
     COLUMN.saturating_mul(text.width() as u64)
 }
 
-/// The extent of a box, or none where there is no such box.
+/// The extent of a box, or none if there is no such box.
 fn extent_of(boxes: &[LayoutBox], index: usize) -> Extent
     ensures { result.width ≡ box_width boxes.now index }
 {
@@ -76,7 +76,7 @@ fn set_offset(offsets: &mut Vec<Point>, index: usize, x: u64, y: u64) {
     }
 }
 
-/// Lays out the items of a sequence side by side, in as many rows as they need.
+/// Lays out the items of a sequence side by side, in one or more rows.
 fn lay_out_sequence(boxes: &[LayoutBox], offsets: &mut Vec<Point>, children: &[usize]) -> Extent
     ensures { HasRoomFor boxes.now children.now result.width }
 {
@@ -115,7 +115,7 @@ fn lay_out_first_row(
     }
 }
 
-/// The number of these boxes that fit into a row, at least one where there is one.
+/// The number of these boxes that fit into a row, at least one if there is one.
 fn row_length(boxes: &[LayoutBox], children: &[usize]) -> usize
     ensures { 0 < length children.now → 0 < result }
 {
@@ -249,7 +249,7 @@ fn lay_out_loop(
     }
 }
 
-/// How far below the rail of a loop its rail back is, where the child takes this space.
+/// Returns how far below the rail of a loop its rail back is, if the child has this extent.
 pub fn back_rail(child: Extent) -> u64
     ensures { result ≡ capped (max child.descent (child.exit_y + TURN) + GAP) }
 {

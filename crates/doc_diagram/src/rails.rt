@@ -78,7 +78,7 @@ fn turn_left(markup: &mut MarkupBuilder<'_>, x: u64, y: u64) -> Result<(), Alloc
     turn(markup, Point { x, y }, Point { x: left, y })
 }
 
-/// Draws a rail from the left to the right, where it has a length.
+/// Draws a rail from the left to the right, if its length is not 0.
 pub fn draw_level(
     markup: &mut MarkupBuilder<'_>,
     left: u64,

@@ -36,7 +36,7 @@ pub enum EbnfWord {
 #[derive(Drop)]
 pub enum EbnfToken<'t> {
     Word(EbnfWord),
-    /// A text that stands for itself: a name, or a string between quotes, of its plain characters.
+    /// A text that is printed as it is: a name, or the plain characters of a string between quotes.
     Name(&'t str),
     String(&'t str),
     /// A character by its number.
@@ -106,7 +106,7 @@ fn push_token(token: &EbnfToken<'_>, page: &mut String) -> Result<(), AllocError
     }
 }
 
-/// Returns whether a character stands for itself in a string: a shown one other than `"`.
+/// Returns whether a character is printed as it is in a string: if it is visible and not `"`.
 pub fn is_plain(character: char) -> bool
     ensures { result ≡ is_plain character }
 {

@@ -45,7 +45,7 @@ pub enum MarkdownToken<'t> {
     Label(String),
     /// A text in a block of code, its lines after the first indented.
     Code(&'t str),
-    /// A link to the rule of this number that shows its name; nothing where there is no such rule.
+    /// A link to the rule of this number that shows its name, or nothing if there is no such rule.
     RuleLink(usize),
 }
 
@@ -75,7 +75,7 @@ impl MarkdownWord {
     }
 }
 
-/// Appends the bytes of tokens, where the rules have these names. The only error is an allocation failure.
+/// Appends the bytes of tokens. `names` has the names of the rules. The only error is an allocation failure.
 pub fn push_markdown(
     tokens: &[MarkdownToken<'_>],
     names: &[&str],

@@ -28,7 +28,7 @@ pub struct MarkdownContents<'t> {
     pub after: Vec<MarkdownToken<'t>>,
 }
 
-/// Returns a page of HTML up to its first section, where the rules have these names. All sections link to
+/// Returns a page of HTML up to its first section. `names` has the names of the rules. All sections link to
 /// the index.
 pub fn start_page(
     alloc: Global,
@@ -115,7 +115,7 @@ fn push_expression(alloc: Global, rule: &Rule, page: &mut String) -> Result<(), 
     page.push_str("</code></pre></details>\n")
 }
 
-/// Returns a page of Markdown up to its first section, where the rules have these names.
+/// Returns a page of Markdown up to its first section. `names` has the names of the rules.
 pub fn start_markdown(
     alloc: Global,
     title: &str,

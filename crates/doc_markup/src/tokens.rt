@@ -42,13 +42,13 @@ pub enum Markup<'t> {
     Text(&'t str),
     /// A text that was composed, escaped.
     Label(String),
-    /// The name of the rule of this number, escaped; nothing where there is no such rule.
+    /// The name of the rule of this number, escaped, or nothing if there is no such rule.
     RuleName(usize),
-    /// An attribute that links to the rule of this number; nothing where there is no such rule.
+    /// An attribute that links to the rule of this number, or nothing if there is no such rule.
     Link(usize),
 }
 
-/// Appends the bytes of tokens, where the rules have these names. The only error is an allocation failure.
+/// Appends the bytes of tokens. `names` has the names of the rules. The only error is an allocation failure.
 pub fn push_markup(
     tokens: &[Markup<'_>],
     names: &[&str],

@@ -6,8 +6,8 @@ use crate::source::{RuleSource, SourcePart};
 use std::alloc::{AllocError, Global};
 use std::collections::HashMap;
 
-/// Finds for each of the first `count` rules those of them that call it, each once, in order, where
-/// `numbers` has the numbers of rules by their names.
+/// Finds for each of the first `count` rules those of them that call it, each once, in order. `numbers` has
+/// the indexes of the rules by their names.
 pub fn find_callers(
     alloc: Global,
     count: usize,
@@ -24,7 +24,7 @@ pub fn find_callers(
     Ok(callers)
 }
 
-/// No callers for each of so many rules.
+/// No callers for each of `count` rules.
 fn no_callers(alloc: Global, count: usize) -> Result<Vec<Vec<usize>>, AllocError>
     ensures each { IfOk result (λ callers. length callers.items ≡ count) }
     ensures below { (n : ℕ) → IfOk result (λ callers. AreCallersBelow n callers.items) }

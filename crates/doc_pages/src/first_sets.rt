@@ -152,7 +152,7 @@ impl FirstSearch<'_, '_, '_> {
         }
     }
 
-    /// Adds the body of the rule of a name, if there is one.
+    /// Adds the body of the rule named `name`, if there is one.
     fn enter_name(&mut self, name: &str, is_atomic: bool) -> Result<(), AllocError>
         ensures { OnOk result (self.new.labels ≡ self.old.labels) }
     {
@@ -187,7 +187,7 @@ impl FirstSearch<'_, '_, '_> {
         }
     }
 
-    /// Adds what may be skipped before the next turn of a repetition, where a turn may match nothing.
+    /// Adds what may be skipped before the next turn of a repetition, if a turn may match nothing.
     fn add_next_turn(
         &mut self,
         operator: UnaryOperator,

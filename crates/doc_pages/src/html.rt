@@ -38,8 +38,8 @@ pub fn html_page(alloc: Global, title: &str, doc: &GrammarDoc<'_>) -> Result<Str
     Ok(page)
 }
 
-/// Returns the diagram of the rule of a name, or of the first rule where no name is given, as SVG; `None`
-/// where the grammar has no such rule. The only error is an allocation failure.
+/// Returns the diagram of the rule named `rule` as SVG. If no name is given, it is that of the first rule.
+/// Returns `None` if the grammar has no such rule. The only error is an allocation failure.
 pub fn svg_diagram(
     alloc: Global,
     doc: &GrammarDoc<'_>,
@@ -55,7 +55,7 @@ pub fn svg_diagram(
     }
 }
 
-/// The first rule of a name, or the first of all where no name is given.
+/// The first rule named `name`, or the first rule of all if no name is given.
 fn find_rule<'r>(rules: &'r [ast::Rule], name: Option<&str>) -> Option<&'r ast::Rule>
     ensures { MatchOption result (HasNoRule name.entry (rules_of rules.entry.now))
         (λ rule. IsAskedFor name.entry (rules_of rules.entry.now) (rule_of_code rule.now)) }
@@ -66,7 +66,7 @@ fn find_rule<'r>(rules: &'r [ast::Rule], name: Option<&str>) -> Option<&'r ast::
     }
 }
 
-/// The first rule of a name.
+/// The first rule named `name`.
 fn find_named<'r>(rules: &'r [ast::Rule], name: &str) -> Option<&'r ast::Rule>
     ensures { MatchOption result (HasNoneNamed name.now (rules_of rules.entry.now))
         (λ rule. IsOneNamed name.now (rules_of rules.entry.now) (rule_of_code rule.now)) }
@@ -138,7 +138,7 @@ fn list_rules<'t>(alloc: Global, names: &[&str]) -> Result<MarkupBuilder<'t>, Al
     Ok(markup)
 }
 
-/// Adds items that link to the first so many rules.
+/// Adds items that link to the first `count` rules.
 fn push_rule_items(markup: &mut MarkupBuilder<'_>, count: usize) -> Result<(), AllocError>
     ensures { OnOk result (links_of markup.new.tokens.items
         ≡ links_of markup.old.tokens.items ++ range_with_len 0 count) }
@@ -349,7 +349,7 @@ fn push_part<'i>(
     }
 }
 
-/// Adds a name, with a link where it is that of a rule other than `own`.
+/// Adds a name, with a link if it is the name of a rule other than `own`.
 fn push_name<'i>(
     markup: &mut MarkupBuilder<'i>,
     name: &'i str,
@@ -427,7 +427,7 @@ fn other_use(facts: &RuleFacts<'_>) -> &'static str {
     }
 }
 
-/// Adds a comma, where there is to be one.
+/// Adds a comma, if there is to be one.
 fn push_comma(markup: &mut MarkupBuilder<'_>, has_comma: bool) -> Result<(), AllocError>
     ensures { OnOk result (links_of markup.new.tokens.items ≡ links_of markup.old.tokens.items) }
 {

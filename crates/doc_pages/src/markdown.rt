@@ -165,7 +165,7 @@ impl<'t> MarkdownBuilder<'t> {
         self.put(MarkdownToken::RuleLink(number))
     }
 
-    /// Adds a list of links to the first so many rules.
+    /// Adds a list of links to the first `count` rules.
     fn rules(&mut self, count: usize) -> Result<(), AllocError>
         ensures { OnOk result (markdown_links self.new.tokens.items
             ≡ markdown_links self.old.tokens.items ++ range_with_len 0 count) }
@@ -245,7 +245,7 @@ impl<'t> MarkdownBuilder<'t> {
         self.warnings(&facts.warnings)
     }
 
-    /// Adds that a rule may match nothing, where it may.
+    /// Adds that a rule may match nothing, if it may.
     fn nullable(&mut self, is_nullable: bool) -> Result<(), AllocError>
         ensures { OnOk result (markdown_links self.new.tokens.items ≡ markdown_links self.old.tokens.items) }
     {
@@ -309,7 +309,7 @@ impl<'t> MarkdownBuilder<'t> {
         }
     }
 
-    /// Adds a comma, where there is to be one.
+    /// Adds a comma, if there is to be one.
     fn comma(&mut self, has_comma: bool) -> Result<(), AllocError>
         ensures { OnOk result (markdown_links self.new.tokens.items ≡ markdown_links self.old.tokens.items) }
     {
@@ -344,7 +344,7 @@ impl<'t> MarkdownBuilder<'t> {
         self.word(MarkdownWord::CodeEnd)
     }
 
-    /// Adds that there are more terminals, where there are, and the end of the line.
+    /// Adds that there are more terminals, if there are, and the end of the line.
     fn end_first_set(&mut self, has_more: bool) -> Result<(), AllocError>
         ensures { OnOk result (markdown_links self.new.tokens.items ≡ markdown_links self.old.tokens.items) }
     {

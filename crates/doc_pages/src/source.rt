@@ -21,7 +21,7 @@ pub struct RuleSource<'i> {
     pub comment: Vec<&'i str>,
     /// Its text, in parts. The first name is its own.
     pub parts: Vec<SourcePart<'i>>,
-    /// Where it begins in the grammar, in bytes.
+    /// The byte of the grammar at which it begins.
     pub start: usize,
 }
 
@@ -105,7 +105,7 @@ impl<'i> SourceReader<'i> {
         Ok(())
     }
 
-    /// Adds a line to the grammar's comment, but for one for pest-lint.
+    /// Adds a line to the grammar's comment, except for one for pest-lint.
     fn add_line(&mut self, line: &'i str) -> Result<(), AllocError> {
         if line.starts_with("pest-lint:") {
             drop_empty_end(&mut self.source.comment);

@@ -5,7 +5,7 @@ use front_names::{Builtin, CharSet};
 use std::alloc::{AllocError, Global};
 use std::collections::HashMap;
 
-/// Where an expression is written.
+/// The place of an expression in another one.
 #[derive(Clone, Copy)]
 enum TermContext {
     /// As a whole, or as an alternative.
@@ -296,7 +296,7 @@ impl<'e> TermWriter<'e> {
         }
     }
 
-    /// Writes a parenthesis, and adds the step that closes it, where there is to be one.
+    /// Writes a parenthesis, and adds the step that closes it, if there is to be one.
     fn open(&mut self, has_parentheses: bool) -> Result<(), AllocError> {
         if has_parentheses {
             self.word(EbnfWord::Open)?;
@@ -340,7 +340,7 @@ enum Times {
 }
 
 impl Times {
-    /// Returns how often, in words, where the sign does not say it.
+    /// Returns the number of repetitions in words, if the sign does not say it.
     fn text(self, alloc: Global) -> Result<Option<String>, AllocError> {
         match self {
             Times::Plain => Ok(None),

@@ -42,7 +42,7 @@ pub fn find_warnings<'i>(
     Ok(warnings)
 }
 
-/// No warnings for each of so many rules.
+/// No warnings for each of `count` rules.
 fn no_warnings<'i>(alloc: Global, count: usize) -> Result<Vec<Vec<RuleWarning<'i>>>, AllocError>
     ensures of_each_rule { IfOk result (λ lists. length lists.items ≡ count) }
     ensures none { (rules : List SpannedRule) → IfOk result (λ lists. AreWarnings rules lists.items) }

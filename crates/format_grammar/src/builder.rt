@@ -568,7 +568,7 @@ impl<'t> Builder<'t> {
         Ok(())
     }
 
-    /// Starts a term: in a choice it begins an alternative, unless it is within one.
+    /// Starts a term. In a choice, the term begins an alternative, unless it is inside one.
     fn start_term(&mut self) {
         if let Some(around) = self.expressions.last_mut() {
             around.is_fresh = false;
@@ -600,8 +600,8 @@ impl<'t> Builder<'t> {
     }
 }
 
-/// Returns whether the first comment after an opening brace or parenthesis begins a line where the group is
-/// broken: either it is so in the text, or the next token is on its line.
+/// Returns whether the first comment after an opening brace or parenthesis begins a line if the group is
+/// broken. It does if it begins a line in the text, or if the next token is on its line.
 fn is_after_line(gap: &Gap, first: Comment) -> bool {
     if first.line_ends > 0 {
         return true;

@@ -42,7 +42,7 @@ fn is_same_rule(rule: Rule, other: Rule) -> bool
     rule == other
 }
 
-/// Returns whether two entries are equal, but for their positions.
+/// Returns whether two entries are equal, except for their positions.
 fn is_same_entry(entry: Entry, other: Entry) -> bool
     ensures { result ≡ true → token.unplaced entry ≡ token.unplaced other }
 {
@@ -179,8 +179,8 @@ fn is_operator(rule: Rule) -> bool
     matches!(rule, Rule::choice_operator | Rule::sequence_operator)
 }
 
-/// Returns whether no token begins between the gap of two neighbouring entries and the next gap, but for an
-/// infix operator.
+/// Returns whether no token begins between the gap of two neighbouring entries and the next gap, except for
+/// an infix operator.
 fn leads_on(last: Entry, entry: Entry) -> bool
     ensures { result ≡ token.leads_on last entry }
 {

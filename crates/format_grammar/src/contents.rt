@@ -10,7 +10,7 @@ pub enum GapState {
     Outside,
     AfterSlash,
     InLine,
-    /// In a block comment that is nested in so many others.
+    /// In a block comment. The number says inside how many others it is.
     InBlock(usize),
     InBlockAfterSlash(usize),
     InBlockAfterStar(usize),

@@ -110,8 +110,8 @@ struct GapText<'t> {
     end: usize,
 }
 
-/// Returns the position after the block comment that starts at `start` in a gap, or the gap's end if it is
-/// left open. A comment begins within another one only if it is closed.
+/// Returns the position after the block comment that starts at `start` in a gap, or the gap's end if the
+/// comment is not closed. A comment begins inside another one only if it is closed.
 fn find_block_end(text: GapText<'_>, counts: &[usize], start: usize) -> usize
     ensures within { start ≤ text.entry.end → start ≤ result }
     ensures bound { result ≤ text.entry.end }

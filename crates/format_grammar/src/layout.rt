@@ -185,7 +185,7 @@ impl Measures {
 /// The style of printed pieces.
 #[derive(Clone, Copy)]
 pub struct Style {
-    /// The greatest number of columns of a line, where it can be broken.
+    /// The greatest number of columns of a line, if it can be broken.
     pub width: usize,
     /// The number of columns of a step of indentation.
     pub indent: usize,
@@ -212,7 +212,7 @@ struct Printer<'t> {
 }
 
 impl<'t> Printer<'t> {
-    /// Prints a word of so many columns.
+    /// Prints `word`, which has `columns` columns.
     fn word(&mut self, word: &str, columns: usize) -> Result<(), AllocError> {
         if word.is_empty() {
             return Ok(());

@@ -43,9 +43,9 @@ pub enum LineEnds {
 /// The options of the formatter.
 #[derive(Clone, Copy)]
 pub struct Options {
-    /// The greatest number of columns of a line, where it can be broken.
+    /// The greatest number of columns of a line that can be broken.
     pub width: usize,
-    /// The number of columns of a step of indentation.
+    /// The number of columns of one level of indentation.
     pub indent: usize,
     pub line_ends: LineEnds,
 }
@@ -64,22 +64,26 @@ impl Default for Options {
     }
 }
 
-/// The formatter's answer.
+/// The result of formatting.
 #[derive(Drop)]
 pub enum Formatted {
     /// The formatted text.
     Text(String),
-    /// The text was formatted to another grammar, or other comments, and is to stay as it is.
+    /// The printed text has other tokens or comments than the given one, so the given text should stay as
+    /// it is.
     Unchanged,
 }
 
-/// Returns the formatted text of a grammar. This text has equal tokens and equal comments, each between the
-/// same two tokens other than infix operators; only blanks at the ends of lines of comments are removed.
-/// Where lines end with line feeds, no line outside of literals ends with a blank. The text is empty, or ends
-/// with one line feed.
+/// Formats the grammar `text`. The formatted text has the same tokens, and the same comments between the
+/// same two tokens, infix operators left out. Only blanks at the ends of lines of comments are removed. The
+/// text is empty, or ends with one line feed. If lines end with line feeds, no line outside of literals
+/// ends with a blank.
 ///
-/// All texts that `PestParser::parse` takes for `grammar_rules` are formatted, also with undefined names. A
-/// text that it refuses is refused with an equal error. Any other fault is an allocation failure.
+/// Names need not be defined: every text that `PestParser::parse` accepts for `grammar_rules` is formatted.
+///
+/// # Errors
+/// - `Fault::Grammar` with the error of `PestParser::parse`, if the text is no grammar.
+/// - `Fault::Memory` if an allocation fails.
 pub fn format(alloc: Global, text: &str, options: Options) -> Result<Formatted, Fault>
     ensures { MatchResult result (IsAnswer options.line_ends text.now)
         (ParseRefuses grammar_rules text.now) }
@@ -196,7 +200,7 @@ fn is_same_grammar(
     is_same(alloc, bytes, entries, other_bytes, others)
 }
 
-/// Returns whether no line outside of literals ends with a blank, where lines are to end with line feeds.
+/// Returns whether no line outside of literals ends with a blank, if lines are to end with line feeds.
 fn has_lines(text: &[u8], entries: &[Entry], line_ends: LineEnds) -> bool
     ensures { result ≡ true → line_ends ≡ LineFeed
         → token.has_clean_lines text.now (End 0 0) entries.now ≡ true }

@@ -2,8 +2,8 @@
 use crate::gaps::{Gap, has_line_end};
 use std::alloc::AllocError;
 
-/// Returns whether the comments after an operator stay there. This is so where the operator begins a line and
-/// the first comment is on that line.
+/// Returns whether the comments after an operator stay there. They do if the operator begins a line and the
+/// first comment is on that line.
 pub fn stay_after(before: &Gap, after: &Gap) -> bool {
     match after.comments.first() {
         Some(first) => first.line_ends == 0 && has_line_end(before),
@@ -36,8 +36,8 @@ fn ends_line(gap: &Gap, k: usize) -> bool {
     is_line || line_ends > 0
 }
 
-/// Adds so many comments of the gap after an operator to the gap before it. The operator's own line is left
-/// out.
+/// Adds the first `count` comments of the gap after an operator to the gap before it. The operator's own line
+/// is left out.
 pub fn move_comments(before: &mut Gap, after: &Gap, count: usize) -> Result<(), AllocError> {
     for k in 0..count {
         if let Some(comment) = after.comments.get(k) {

@@ -30,7 +30,7 @@ pub enum Piece {
     LineEnd {
         has_empty_line: bool,
     },
-    /// A line end within a comment.
+    /// A line end inside a comment.
     CommentLineEnd,
     /// A group starts: its lines are broken all, or none.
     Open,
@@ -46,9 +46,9 @@ pub enum Piece {
 #[derive(Clone, Copy)]
 pub enum Fill {
     Never,
-    /// Where the operand before or after it is short, and the latter fits on the line.
+    /// If the operand before or after it is short, and the one after it fits on the line.
     BesideShort,
-    /// Where the operand after it fits on the line.
+    /// If the operand after it fits on the line.
     WhereItFits,
 }
 

@@ -21,144 +21,144 @@ use Rattle.front_code.proofs.Shapes.{Laid, Setting, all_of, at_once, at_point, a
 -- the calls of the rules from outside, and the bodies that are called
 pub called : List Point
 called =
-    record { task = Run NonAtomicMode (Ident (name_of rule.EOI)); label = 3; next = 1; way = 2; rank = 0 }
-    ∷ record { task = Run NonAtomicMode (Ident (name_of rule.grammar_rules)); label = 4; next = 1; way = 2; rank = 0 }
-    ∷ record { task = Run NonAtomicMode (Ident (name_of rule.grammar_rule)); label = 5; next = 1; way = 2; rank = 0 }
-    ∷ record { task = Run NonAtomicMode (Ident (name_of rule.assignment_operator)); label = 6; next = 1; way = 2; rank = 0 }
-    ∷ record { task = Run NonAtomicMode (Ident (name_of rule.opening_brace)); label = 7; next = 1; way = 2; rank = 0 }
-    ∷ record { task = Run NonAtomicMode (Ident (name_of rule.closing_brace)); label = 8; next = 1; way = 2; rank = 0 }
-    ∷ record { task = Run NonAtomicMode (Ident (name_of rule.opening_paren)); label = 9; next = 1; way = 2; rank = 0 }
-    ∷ record { task = Run NonAtomicMode (Ident (name_of rule.closing_paren)); label = 10; next = 1; way = 2; rank = 0 }
-    ∷ record { task = Run NonAtomicMode (Ident (name_of rule.opening_brack)); label = 11; next = 1; way = 2; rank = 0 }
-    ∷ record { task = Run NonAtomicMode (Ident (name_of rule.closing_brack)); label = 12; next = 1; way = 2; rank = 0 }
-    ∷ record { task = Run NonAtomicMode (Ident (name_of rule.modifier)); label = 13; next = 1; way = 2; rank = 0 }
-    ∷ record { task = Run NonAtomicMode (Ident (name_of rule.silent_modifier)); label = 14; next = 1; way = 2; rank = 0 }
-    ∷ record { task = Run NonAtomicMode (Ident (name_of rule.atomic_modifier)); label = 15; next = 1; way = 2; rank = 0 }
-    ∷ record { task = Run NonAtomicMode (Ident (name_of rule.compound_atomic_modifier)); label = 16; next = 1; way = 2; rank = 0 }
-    ∷ record { task = Run NonAtomicMode (Ident (name_of rule.non_atomic_modifier)); label = 17; next = 1; way = 2; rank = 0 }
-    ∷ record { task = Run NonAtomicMode (Ident (name_of rule.tag_id)); label = 18; next = 1; way = 2; rank = 0 }
-    ∷ record { task = Run NonAtomicMode (Ident (name_of rule.node_tag)); label = 19; next = 1; way = 2; rank = 0 }
-    ∷ record { task = Run NonAtomicMode (Ident (name_of rule.expression)); label = 20; next = 1; way = 2; rank = 0 }
-    ∷ record { task = Run NonAtomicMode (Ident (name_of rule.term)); label = 21; next = 1; way = 2; rank = 0 }
-    ∷ record { task = Run NonAtomicMode (Ident (name_of rule.node)); label = 22; next = 1; way = 2; rank = 0 }
-    ∷ record { task = Run NonAtomicMode (Ident (name_of rule.terminal)); label = 23; next = 1; way = 2; rank = 0 }
-    ∷ record { task = Run NonAtomicMode (Ident (name_of rule.prefix_operator)); label = 24; next = 1; way = 2; rank = 0 }
-    ∷ record { task = Run NonAtomicMode (Ident (name_of rule.infix_operator)); label = 25; next = 1; way = 2; rank = 0 }
-    ∷ record { task = Run NonAtomicMode (Ident (name_of rule.postfix_operator)); label = 26; next = 1; way = 2; rank = 0 }
-    ∷ record { task = Run NonAtomicMode (Ident (name_of rule.positive_predicate_operator)); label = 27; next = 1; way = 2; rank = 0 }
-    ∷ record { task = Run NonAtomicMode (Ident (name_of rule.negative_predicate_operator)); label = 28; next = 1; way = 2; rank = 0 }
-    ∷ record { task = Run NonAtomicMode (Ident (name_of rule.sequence_operator)); label = 29; next = 1; way = 2; rank = 0 }
-    ∷ record { task = Run NonAtomicMode (Ident (name_of rule.choice_operator)); label = 30; next = 1; way = 2; rank = 0 }
-    ∷ record { task = Run NonAtomicMode (Ident (name_of rule.optional_operator)); label = 31; next = 1; way = 2; rank = 0 }
-    ∷ record { task = Run NonAtomicMode (Ident (name_of rule.repeat_operator)); label = 32; next = 1; way = 2; rank = 0 }
-    ∷ record { task = Run NonAtomicMode (Ident (name_of rule.repeat_once_operator)); label = 33; next = 1; way = 2; rank = 0 }
-    ∷ record { task = Run NonAtomicMode (Ident (name_of rule.repeat_exact)); label = 34; next = 1; way = 2; rank = 0 }
-    ∷ record { task = Run NonAtomicMode (Ident (name_of rule.repeat_min)); label = 35; next = 1; way = 2; rank = 0 }
-    ∷ record { task = Run NonAtomicMode (Ident (name_of rule.repeat_max)); label = 36; next = 1; way = 2; rank = 0 }
-    ∷ record { task = Run NonAtomicMode (Ident (name_of rule.repeat_min_max)); label = 37; next = 1; way = 2; rank = 0 }
-    ∷ record { task = Run NonAtomicMode (Ident (name_of rule.number)); label = 38; next = 1; way = 2; rank = 0 }
-    ∷ record { task = Run NonAtomicMode (Ident (name_of rule.integer)); label = 39; next = 1; way = 2; rank = 0 }
-    ∷ record { task = Run NonAtomicMode (Ident (name_of rule.comma)); label = 40; next = 1; way = 2; rank = 0 }
-    ∷ record { task = Run NonAtomicMode (Ident (name_of rule._push)); label = 41; next = 1; way = 2; rank = 0 }
-    ∷ record { task = Run NonAtomicMode (Ident (name_of rule._push_literal)); label = 42; next = 1; way = 2; rank = 0 }
-    ∷ record { task = Run NonAtomicMode (Ident (name_of rule.peek_slice)); label = 43; next = 1; way = 2; rank = 0 }
-    ∷ record { task = Run NonAtomicMode (Ident (name_of rule.identifier)); label = 44; next = 1; way = 2; rank = 0 }
-    ∷ record { task = Run NonAtomicMode (Ident (name_of rule.alpha)); label = 45; next = 1; way = 2; rank = 0 }
-    ∷ record { task = Run NonAtomicMode (Ident (name_of rule.alpha_num)); label = 46; next = 1; way = 2; rank = 0 }
-    ∷ record { task = Run NonAtomicMode (Ident (name_of rule.string)); label = 47; next = 1; way = 2; rank = 0 }
-    ∷ record { task = Run NonAtomicMode (Ident (name_of rule.insensitive_string)); label = 48; next = 1; way = 2; rank = 0 }
-    ∷ record { task = Run NonAtomicMode (Ident (name_of rule.range)); label = 49; next = 1; way = 2; rank = 0 }
-    ∷ record { task = Run NonAtomicMode (Ident (name_of rule.character)); label = 50; next = 1; way = 2; rank = 0 }
-    ∷ record { task = Run NonAtomicMode (Ident (name_of rule.inner_str)); label = 51; next = 1; way = 2; rank = 0 }
-    ∷ record { task = Run NonAtomicMode (Ident (name_of rule.inner_chr)); label = 52; next = 1; way = 2; rank = 0 }
-    ∷ record { task = Run NonAtomicMode (Ident (name_of rule.escape)); label = 53; next = 1; way = 2; rank = 0 }
-    ∷ record { task = Run NonAtomicMode (Ident (name_of rule.code)); label = 54; next = 1; way = 2; rank = 0 }
-    ∷ record { task = Run NonAtomicMode (Ident (name_of rule.unicode)); label = 55; next = 1; way = 2; rank = 0 }
-    ∷ record { task = Run NonAtomicMode (Ident (name_of rule.hex_digit)); label = 56; next = 1; way = 2; rank = 0 }
-    ∷ record { task = Run NonAtomicMode (Ident (name_of rule.quote)); label = 57; next = 1; way = 2; rank = 0 }
-    ∷ record { task = Run NonAtomicMode (Ident (name_of rule.single_quote)); label = 58; next = 1; way = 2; rank = 0 }
-    ∷ record { task = Run NonAtomicMode (Ident (name_of rule.range_operator)); label = 59; next = 1; way = 2; rank = 0 }
-    ∷ record { task = Run NonAtomicMode (Ident (name_of rule.newline)); label = 60; next = 1; way = 2; rank = 0 }
-    ∷ record { task = Run NonAtomicMode (Ident (name_of rule.WHITESPACE)); label = 61; next = 1; way = 2; rank = 0 }
-    ∷ record { task = Run NonAtomicMode (Ident (name_of rule.line_comment)); label = 62; next = 1; way = 2; rank = 0 }
-    ∷ record { task = Run NonAtomicMode (Ident (name_of rule.block_comment)); label = 63; next = 1; way = 2; rank = 0 }
-    ∷ record { task = Run NonAtomicMode (Ident (name_of rule.COMMENT)); label = 64; next = 1; way = 2; rank = 0 }
-    ∷ record { task = Run NonAtomicMode (Ident (name_of rule.space)); label = 65; next = 1; way = 2; rank = 0 }
-    ∷ record { task = Run NonAtomicMode (Ident (name_of rule.grammar_doc)); label = 66; next = 1; way = 2; rank = 0 }
-    ∷ record { task = Run NonAtomicMode (Ident (name_of rule.line_doc)); label = 67; next = 1; way = 2; rank = 0 }
-    ∷ record { task = Run NonAtomicMode (Ident (name_of rule.inner_doc)); label = 68; next = 1; way = 2; rank = 0 }
-    ∷ record { task = Run NonAtomicMode (body_of rule.grammar_rules); label = 71; next = 72; way = 0; rank = 0 }
-    ∷ record { task = Run NonAtomicMode (body_of rule.grammar_rule); label = 73; next = 74; way = 0; rank = 0 }
-    ∷ record { task = Run NonAtomicMode (body_of rule.assignment_operator); label = 75; next = 76; way = 0; rank = 0 }
-    ∷ record { task = Run NonAtomicMode (body_of rule.opening_brace); label = 77; next = 78; way = 0; rank = 0 }
-    ∷ record { task = Run NonAtomicMode (body_of rule.closing_brace); label = 79; next = 80; way = 0; rank = 0 }
-    ∷ record { task = Run NonAtomicMode (body_of rule.opening_paren); label = 81; next = 82; way = 0; rank = 0 }
-    ∷ record { task = Run NonAtomicMode (body_of rule.closing_paren); label = 83; next = 84; way = 0; rank = 0 }
-    ∷ record { task = Run NonAtomicMode (body_of rule.opening_brack); label = 85; next = 86; way = 0; rank = 0 }
-    ∷ record { task = Run NonAtomicMode (body_of rule.closing_brack); label = 87; next = 88; way = 0; rank = 0 }
-    ∷ record { task = Run NonAtomicMode (body_of rule.modifier); label = 89; next = 90; way = 0; rank = 0 }
-    ∷ record { task = Run NonAtomicMode (body_of rule.silent_modifier); label = 91; next = 92; way = 0; rank = 0 }
-    ∷ record { task = Run NonAtomicMode (body_of rule.atomic_modifier); label = 93; next = 94; way = 0; rank = 0 }
-    ∷ record { task = Run NonAtomicMode (body_of rule.compound_atomic_modifier); label = 95; next = 96; way = 0; rank = 0 }
-    ∷ record { task = Run NonAtomicMode (body_of rule.non_atomic_modifier); label = 97; next = 98; way = 0; rank = 0 }
-    ∷ record { task = Run AtomicMode (body_of rule.tag_id); label = 99; next = 100; way = 0; rank = 0 }
-    ∷ record { task = Run NonAtomicMode (body_of rule.node_tag); label = 101; next = 102; way = 0; rank = 0 }
-    ∷ record { task = Run NonAtomicMode (body_of rule.expression); label = 103; next = 104; way = 0; rank = 0 }
-    ∷ record { task = Run NonAtomicMode (body_of rule.term); label = 105; next = 106; way = 0; rank = 0 }
-    ∷ record { task = Run NonAtomicMode (body_of rule.node); label = 107; next = 108; way = 0; rank = 0 }
-    ∷ record { task = Run NonAtomicMode (body_of rule.terminal); label = 109; next = 110; way = 0; rank = 0 }
-    ∷ record { task = Run NonAtomicMode (body_of rule.prefix_operator); label = 111; next = 112; way = 0; rank = 0 }
-    ∷ record { task = Run NonAtomicMode (body_of rule.infix_operator); label = 113; next = 114; way = 0; rank = 0 }
-    ∷ record { task = Run NonAtomicMode (body_of rule.postfix_operator); label = 115; next = 116; way = 0; rank = 0 }
-    ∷ record { task = Run NonAtomicMode (body_of rule.positive_predicate_operator); label = 117; next = 118; way = 0; rank = 0 }
-    ∷ record { task = Run NonAtomicMode (body_of rule.negative_predicate_operator); label = 119; next = 120; way = 0; rank = 0 }
-    ∷ record { task = Run NonAtomicMode (body_of rule.sequence_operator); label = 121; next = 122; way = 0; rank = 0 }
-    ∷ record { task = Run NonAtomicMode (body_of rule.choice_operator); label = 123; next = 124; way = 0; rank = 0 }
-    ∷ record { task = Run NonAtomicMode (body_of rule.optional_operator); label = 125; next = 126; way = 0; rank = 0 }
-    ∷ record { task = Run NonAtomicMode (body_of rule.repeat_operator); label = 127; next = 128; way = 0; rank = 0 }
-    ∷ record { task = Run NonAtomicMode (body_of rule.repeat_once_operator); label = 129; next = 130; way = 0; rank = 0 }
-    ∷ record { task = Run NonAtomicMode (body_of rule.repeat_exact); label = 131; next = 132; way = 0; rank = 0 }
-    ∷ record { task = Run NonAtomicMode (body_of rule.repeat_min); label = 133; next = 134; way = 0; rank = 0 }
-    ∷ record { task = Run NonAtomicMode (body_of rule.repeat_max); label = 135; next = 136; way = 0; rank = 0 }
-    ∷ record { task = Run NonAtomicMode (body_of rule.repeat_min_max); label = 137; next = 138; way = 0; rank = 0 }
-    ∷ record { task = Run AtomicMode (body_of rule.number); label = 139; next = 140; way = 0; rank = 0 }
-    ∷ record { task = Run AtomicMode (body_of rule.integer); label = 141; next = 142; way = 0; rank = 0 }
-    ∷ record { task = Run NonAtomicMode (body_of rule.comma); label = 143; next = 144; way = 0; rank = 0 }
-    ∷ record { task = Run NonAtomicMode (body_of rule._push); label = 145; next = 146; way = 0; rank = 0 }
-    ∷ record { task = Run NonAtomicMode (body_of rule._push_literal); label = 147; next = 148; way = 0; rank = 0 }
-    ∷ record { task = Run NonAtomicMode (body_of rule.peek_slice); label = 149; next = 150; way = 0; rank = 0 }
-    ∷ record { task = Run AtomicMode (body_of rule.identifier); label = 151; next = 152; way = 0; rank = 0 }
-    ∷ record { task = Run NonAtomicMode (body_of rule.alpha); label = 153; next = 154; way = 0; rank = 0 }
-    ∷ record { task = Run NonAtomicMode (body_of rule.alpha_num); label = 155; next = 156; way = 0; rank = 0 }
-    ∷ record { task = Run CompoundAtomicMode (body_of rule.string); label = 157; next = 158; way = 0; rank = 0 }
-    ∷ record { task = Run NonAtomicMode (body_of rule.insensitive_string); label = 159; next = 160; way = 0; rank = 0 }
-    ∷ record { task = Run NonAtomicMode (body_of rule.range); label = 161; next = 162; way = 0; rank = 0 }
-    ∷ record { task = Run CompoundAtomicMode (body_of rule.character); label = 163; next = 164; way = 0; rank = 0 }
-    ∷ record { task = Run AtomicMode (body_of rule.inner_str); label = 165; next = 166; way = 0; rank = 0 }
-    ∷ record { task = Run AtomicMode (body_of rule.inner_chr); label = 167; next = 168; way = 0; rank = 0 }
-    ∷ record { task = Run AtomicMode (body_of rule.escape); label = 169; next = 170; way = 0; rank = 0 }
-    ∷ record { task = Run AtomicMode (body_of rule.code); label = 171; next = 172; way = 0; rank = 0 }
-    ∷ record { task = Run AtomicMode (body_of rule.unicode); label = 173; next = 174; way = 0; rank = 0 }
-    ∷ record { task = Run AtomicMode (body_of rule.hex_digit); label = 175; next = 176; way = 0; rank = 0 }
-    ∷ record { task = Run NonAtomicMode (body_of rule.quote); label = 177; next = 178; way = 0; rank = 0 }
-    ∷ record { task = Run NonAtomicMode (body_of rule.single_quote); label = 179; next = 180; way = 0; rank = 0 }
-    ∷ record { task = Run NonAtomicMode (body_of rule.range_operator); label = 181; next = 182; way = 0; rank = 0 }
-    ∷ record { task = Run NonAtomicMode (body_of rule.newline); label = 183; next = 184; way = 0; rank = 0 }
-    ∷ record { task = Run AtomicMode (body_of rule.WHITESPACE); label = 185; next = 186; way = 0; rank = 0 }
-    ∷ record { task = Run NonAtomicMode (body_of rule.line_comment); label = 187; next = 188; way = 0; rank = 0 }
-    ∷ record { task = Run NonAtomicMode (body_of rule.block_comment); label = 189; next = 190; way = 0; rank = 0 }
-    ∷ record { task = Run AtomicMode (body_of rule.COMMENT); label = 191; next = 192; way = 0; rank = 0 }
-    ∷ record { task = Run NonAtomicMode (body_of rule.space); label = 193; next = 194; way = 0; rank = 0 }
-    ∷ record { task = Run CompoundAtomicMode (body_of rule.grammar_doc); label = 195; next = 196; way = 0; rank = 0 }
-    ∷ record { task = Run CompoundAtomicMode (body_of rule.line_doc); label = 197; next = 198; way = 0; rank = 0 }
-    ∷ record { task = Run AtomicMode (body_of rule.inner_doc); label = 199; next = 200; way = 0; rank = 0 }
-    ∷ record { task = Run AtomicMode (body_of rule.number); label = 986; next = 987; way = 0; rank = 0 }
-    ∷ record { task = Run CompoundAtomicMode (body_of rule.quote); label = 1167; next = 1168; way = 0; rank = 0 }
-    ∷ record { task = Run CompoundAtomicMode (body_of rule.single_quote); label = 1216; next = 1217; way = 0; rank = 0 }
-    ∷ record { task = Run AtomicMode (body_of rule.escape); label = 1223; next = 1224; way = 0; rank = 0 }
-    ∷ record { task = Run AtomicMode (body_of rule.inner_str); label = 1225; next = 1226; way = 0; rank = 0 }
-    ∷ record { task = Run AtomicMode (body_of rule.code); label = 1234; next = 1235; way = 0; rank = 0 }
-    ∷ record { task = Run AtomicMode (body_of rule.unicode); label = 1236; next = 1237; way = 0; rank = 0 }
+    record { task = Run NonAtomicMode (Ident (name_of rule.EOI)); label = 3; next = 1; on_fail = 2; rank = 0 }
+    ∷ record { task = Run NonAtomicMode (Ident (name_of rule.grammar_rules)); label = 4; next = 1; on_fail = 2; rank = 0 }
+    ∷ record { task = Run NonAtomicMode (Ident (name_of rule.grammar_rule)); label = 5; next = 1; on_fail = 2; rank = 0 }
+    ∷ record { task = Run NonAtomicMode (Ident (name_of rule.assignment_operator)); label = 6; next = 1; on_fail = 2; rank = 0 }
+    ∷ record { task = Run NonAtomicMode (Ident (name_of rule.opening_brace)); label = 7; next = 1; on_fail = 2; rank = 0 }
+    ∷ record { task = Run NonAtomicMode (Ident (name_of rule.closing_brace)); label = 8; next = 1; on_fail = 2; rank = 0 }
+    ∷ record { task = Run NonAtomicMode (Ident (name_of rule.opening_paren)); label = 9; next = 1; on_fail = 2; rank = 0 }
+    ∷ record { task = Run NonAtomicMode (Ident (name_of rule.closing_paren)); label = 10; next = 1; on_fail = 2; rank = 0 }
+    ∷ record { task = Run NonAtomicMode (Ident (name_of rule.opening_brack)); label = 11; next = 1; on_fail = 2; rank = 0 }
+    ∷ record { task = Run NonAtomicMode (Ident (name_of rule.closing_brack)); label = 12; next = 1; on_fail = 2; rank = 0 }
+    ∷ record { task = Run NonAtomicMode (Ident (name_of rule.modifier)); label = 13; next = 1; on_fail = 2; rank = 0 }
+    ∷ record { task = Run NonAtomicMode (Ident (name_of rule.silent_modifier)); label = 14; next = 1; on_fail = 2; rank = 0 }
+    ∷ record { task = Run NonAtomicMode (Ident (name_of rule.atomic_modifier)); label = 15; next = 1; on_fail = 2; rank = 0 }
+    ∷ record { task = Run NonAtomicMode (Ident (name_of rule.compound_atomic_modifier)); label = 16; next = 1; on_fail = 2; rank = 0 }
+    ∷ record { task = Run NonAtomicMode (Ident (name_of rule.non_atomic_modifier)); label = 17; next = 1; on_fail = 2; rank = 0 }
+    ∷ record { task = Run NonAtomicMode (Ident (name_of rule.tag_id)); label = 18; next = 1; on_fail = 2; rank = 0 }
+    ∷ record { task = Run NonAtomicMode (Ident (name_of rule.node_tag)); label = 19; next = 1; on_fail = 2; rank = 0 }
+    ∷ record { task = Run NonAtomicMode (Ident (name_of rule.expression)); label = 20; next = 1; on_fail = 2; rank = 0 }
+    ∷ record { task = Run NonAtomicMode (Ident (name_of rule.term)); label = 21; next = 1; on_fail = 2; rank = 0 }
+    ∷ record { task = Run NonAtomicMode (Ident (name_of rule.node)); label = 22; next = 1; on_fail = 2; rank = 0 }
+    ∷ record { task = Run NonAtomicMode (Ident (name_of rule.terminal)); label = 23; next = 1; on_fail = 2; rank = 0 }
+    ∷ record { task = Run NonAtomicMode (Ident (name_of rule.prefix_operator)); label = 24; next = 1; on_fail = 2; rank = 0 }
+    ∷ record { task = Run NonAtomicMode (Ident (name_of rule.infix_operator)); label = 25; next = 1; on_fail = 2; rank = 0 }
+    ∷ record { task = Run NonAtomicMode (Ident (name_of rule.postfix_operator)); label = 26; next = 1; on_fail = 2; rank = 0 }
+    ∷ record { task = Run NonAtomicMode (Ident (name_of rule.positive_predicate_operator)); label = 27; next = 1; on_fail = 2; rank = 0 }
+    ∷ record { task = Run NonAtomicMode (Ident (name_of rule.negative_predicate_operator)); label = 28; next = 1; on_fail = 2; rank = 0 }
+    ∷ record { task = Run NonAtomicMode (Ident (name_of rule.sequence_operator)); label = 29; next = 1; on_fail = 2; rank = 0 }
+    ∷ record { task = Run NonAtomicMode (Ident (name_of rule.choice_operator)); label = 30; next = 1; on_fail = 2; rank = 0 }
+    ∷ record { task = Run NonAtomicMode (Ident (name_of rule.optional_operator)); label = 31; next = 1; on_fail = 2; rank = 0 }
+    ∷ record { task = Run NonAtomicMode (Ident (name_of rule.repeat_operator)); label = 32; next = 1; on_fail = 2; rank = 0 }
+    ∷ record { task = Run NonAtomicMode (Ident (name_of rule.repeat_once_operator)); label = 33; next = 1; on_fail = 2; rank = 0 }
+    ∷ record { task = Run NonAtomicMode (Ident (name_of rule.repeat_exact)); label = 34; next = 1; on_fail = 2; rank = 0 }
+    ∷ record { task = Run NonAtomicMode (Ident (name_of rule.repeat_min)); label = 35; next = 1; on_fail = 2; rank = 0 }
+    ∷ record { task = Run NonAtomicMode (Ident (name_of rule.repeat_max)); label = 36; next = 1; on_fail = 2; rank = 0 }
+    ∷ record { task = Run NonAtomicMode (Ident (name_of rule.repeat_min_max)); label = 37; next = 1; on_fail = 2; rank = 0 }
+    ∷ record { task = Run NonAtomicMode (Ident (name_of rule.number)); label = 38; next = 1; on_fail = 2; rank = 0 }
+    ∷ record { task = Run NonAtomicMode (Ident (name_of rule.integer)); label = 39; next = 1; on_fail = 2; rank = 0 }
+    ∷ record { task = Run NonAtomicMode (Ident (name_of rule.comma)); label = 40; next = 1; on_fail = 2; rank = 0 }
+    ∷ record { task = Run NonAtomicMode (Ident (name_of rule._push)); label = 41; next = 1; on_fail = 2; rank = 0 }
+    ∷ record { task = Run NonAtomicMode (Ident (name_of rule._push_literal)); label = 42; next = 1; on_fail = 2; rank = 0 }
+    ∷ record { task = Run NonAtomicMode (Ident (name_of rule.peek_slice)); label = 43; next = 1; on_fail = 2; rank = 0 }
+    ∷ record { task = Run NonAtomicMode (Ident (name_of rule.identifier)); label = 44; next = 1; on_fail = 2; rank = 0 }
+    ∷ record { task = Run NonAtomicMode (Ident (name_of rule.alpha)); label = 45; next = 1; on_fail = 2; rank = 0 }
+    ∷ record { task = Run NonAtomicMode (Ident (name_of rule.alpha_num)); label = 46; next = 1; on_fail = 2; rank = 0 }
+    ∷ record { task = Run NonAtomicMode (Ident (name_of rule.string)); label = 47; next = 1; on_fail = 2; rank = 0 }
+    ∷ record { task = Run NonAtomicMode (Ident (name_of rule.insensitive_string)); label = 48; next = 1; on_fail = 2; rank = 0 }
+    ∷ record { task = Run NonAtomicMode (Ident (name_of rule.range)); label = 49; next = 1; on_fail = 2; rank = 0 }
+    ∷ record { task = Run NonAtomicMode (Ident (name_of rule.character)); label = 50; next = 1; on_fail = 2; rank = 0 }
+    ∷ record { task = Run NonAtomicMode (Ident (name_of rule.inner_str)); label = 51; next = 1; on_fail = 2; rank = 0 }
+    ∷ record { task = Run NonAtomicMode (Ident (name_of rule.inner_chr)); label = 52; next = 1; on_fail = 2; rank = 0 }
+    ∷ record { task = Run NonAtomicMode (Ident (name_of rule.escape)); label = 53; next = 1; on_fail = 2; rank = 0 }
+    ∷ record { task = Run NonAtomicMode (Ident (name_of rule.code)); label = 54; next = 1; on_fail = 2; rank = 0 }
+    ∷ record { task = Run NonAtomicMode (Ident (name_of rule.unicode)); label = 55; next = 1; on_fail = 2; rank = 0 }
+    ∷ record { task = Run NonAtomicMode (Ident (name_of rule.hex_digit)); label = 56; next = 1; on_fail = 2; rank = 0 }
+    ∷ record { task = Run NonAtomicMode (Ident (name_of rule.quote)); label = 57; next = 1; on_fail = 2; rank = 0 }
+    ∷ record { task = Run NonAtomicMode (Ident (name_of rule.single_quote)); label = 58; next = 1; on_fail = 2; rank = 0 }
+    ∷ record { task = Run NonAtomicMode (Ident (name_of rule.range_operator)); label = 59; next = 1; on_fail = 2; rank = 0 }
+    ∷ record { task = Run NonAtomicMode (Ident (name_of rule.newline)); label = 60; next = 1; on_fail = 2; rank = 0 }
+    ∷ record { task = Run NonAtomicMode (Ident (name_of rule.WHITESPACE)); label = 61; next = 1; on_fail = 2; rank = 0 }
+    ∷ record { task = Run NonAtomicMode (Ident (name_of rule.line_comment)); label = 62; next = 1; on_fail = 2; rank = 0 }
+    ∷ record { task = Run NonAtomicMode (Ident (name_of rule.block_comment)); label = 63; next = 1; on_fail = 2; rank = 0 }
+    ∷ record { task = Run NonAtomicMode (Ident (name_of rule.COMMENT)); label = 64; next = 1; on_fail = 2; rank = 0 }
+    ∷ record { task = Run NonAtomicMode (Ident (name_of rule.space)); label = 65; next = 1; on_fail = 2; rank = 0 }
+    ∷ record { task = Run NonAtomicMode (Ident (name_of rule.grammar_doc)); label = 66; next = 1; on_fail = 2; rank = 0 }
+    ∷ record { task = Run NonAtomicMode (Ident (name_of rule.line_doc)); label = 67; next = 1; on_fail = 2; rank = 0 }
+    ∷ record { task = Run NonAtomicMode (Ident (name_of rule.inner_doc)); label = 68; next = 1; on_fail = 2; rank = 0 }
+    ∷ record { task = Run NonAtomicMode (body_of rule.grammar_rules); label = 71; next = 72; on_fail = 0; rank = 0 }
+    ∷ record { task = Run NonAtomicMode (body_of rule.grammar_rule); label = 73; next = 74; on_fail = 0; rank = 0 }
+    ∷ record { task = Run NonAtomicMode (body_of rule.assignment_operator); label = 75; next = 76; on_fail = 0; rank = 0 }
+    ∷ record { task = Run NonAtomicMode (body_of rule.opening_brace); label = 77; next = 78; on_fail = 0; rank = 0 }
+    ∷ record { task = Run NonAtomicMode (body_of rule.closing_brace); label = 79; next = 80; on_fail = 0; rank = 0 }
+    ∷ record { task = Run NonAtomicMode (body_of rule.opening_paren); label = 81; next = 82; on_fail = 0; rank = 0 }
+    ∷ record { task = Run NonAtomicMode (body_of rule.closing_paren); label = 83; next = 84; on_fail = 0; rank = 0 }
+    ∷ record { task = Run NonAtomicMode (body_of rule.opening_brack); label = 85; next = 86; on_fail = 0; rank = 0 }
+    ∷ record { task = Run NonAtomicMode (body_of rule.closing_brack); label = 87; next = 88; on_fail = 0; rank = 0 }
+    ∷ record { task = Run NonAtomicMode (body_of rule.modifier); label = 89; next = 90; on_fail = 0; rank = 0 }
+    ∷ record { task = Run NonAtomicMode (body_of rule.silent_modifier); label = 91; next = 92; on_fail = 0; rank = 0 }
+    ∷ record { task = Run NonAtomicMode (body_of rule.atomic_modifier); label = 93; next = 94; on_fail = 0; rank = 0 }
+    ∷ record { task = Run NonAtomicMode (body_of rule.compound_atomic_modifier); label = 95; next = 96; on_fail = 0; rank = 0 }
+    ∷ record { task = Run NonAtomicMode (body_of rule.non_atomic_modifier); label = 97; next = 98; on_fail = 0; rank = 0 }
+    ∷ record { task = Run AtomicMode (body_of rule.tag_id); label = 99; next = 100; on_fail = 0; rank = 0 }
+    ∷ record { task = Run NonAtomicMode (body_of rule.node_tag); label = 101; next = 102; on_fail = 0; rank = 0 }
+    ∷ record { task = Run NonAtomicMode (body_of rule.expression); label = 103; next = 104; on_fail = 0; rank = 0 }
+    ∷ record { task = Run NonAtomicMode (body_of rule.term); label = 105; next = 106; on_fail = 0; rank = 0 }
+    ∷ record { task = Run NonAtomicMode (body_of rule.node); label = 107; next = 108; on_fail = 0; rank = 0 }
+    ∷ record { task = Run NonAtomicMode (body_of rule.terminal); label = 109; next = 110; on_fail = 0; rank = 0 }
+    ∷ record { task = Run NonAtomicMode (body_of rule.prefix_operator); label = 111; next = 112; on_fail = 0; rank = 0 }
+    ∷ record { task = Run NonAtomicMode (body_of rule.infix_operator); label = 113; next = 114; on_fail = 0; rank = 0 }
+    ∷ record { task = Run NonAtomicMode (body_of rule.postfix_operator); label = 115; next = 116; on_fail = 0; rank = 0 }
+    ∷ record { task = Run NonAtomicMode (body_of rule.positive_predicate_operator); label = 117; next = 118; on_fail = 0; rank = 0 }
+    ∷ record { task = Run NonAtomicMode (body_of rule.negative_predicate_operator); label = 119; next = 120; on_fail = 0; rank = 0 }
+    ∷ record { task = Run NonAtomicMode (body_of rule.sequence_operator); label = 121; next = 122; on_fail = 0; rank = 0 }
+    ∷ record { task = Run NonAtomicMode (body_of rule.choice_operator); label = 123; next = 124; on_fail = 0; rank = 0 }
+    ∷ record { task = Run NonAtomicMode (body_of rule.optional_operator); label = 125; next = 126; on_fail = 0; rank = 0 }
+    ∷ record { task = Run NonAtomicMode (body_of rule.repeat_operator); label = 127; next = 128; on_fail = 0; rank = 0 }
+    ∷ record { task = Run NonAtomicMode (body_of rule.repeat_once_operator); label = 129; next = 130; on_fail = 0; rank = 0 }
+    ∷ record { task = Run NonAtomicMode (body_of rule.repeat_exact); label = 131; next = 132; on_fail = 0; rank = 0 }
+    ∷ record { task = Run NonAtomicMode (body_of rule.repeat_min); label = 133; next = 134; on_fail = 0; rank = 0 }
+    ∷ record { task = Run NonAtomicMode (body_of rule.repeat_max); label = 135; next = 136; on_fail = 0; rank = 0 }
+    ∷ record { task = Run NonAtomicMode (body_of rule.repeat_min_max); label = 137; next = 138; on_fail = 0; rank = 0 }
+    ∷ record { task = Run AtomicMode (body_of rule.number); label = 139; next = 140; on_fail = 0; rank = 0 }
+    ∷ record { task = Run AtomicMode (body_of rule.integer); label = 141; next = 142; on_fail = 0; rank = 0 }
+    ∷ record { task = Run NonAtomicMode (body_of rule.comma); label = 143; next = 144; on_fail = 0; rank = 0 }
+    ∷ record { task = Run NonAtomicMode (body_of rule._push); label = 145; next = 146; on_fail = 0; rank = 0 }
+    ∷ record { task = Run NonAtomicMode (body_of rule._push_literal); label = 147; next = 148; on_fail = 0; rank = 0 }
+    ∷ record { task = Run NonAtomicMode (body_of rule.peek_slice); label = 149; next = 150; on_fail = 0; rank = 0 }
+    ∷ record { task = Run AtomicMode (body_of rule.identifier); label = 151; next = 152; on_fail = 0; rank = 0 }
+    ∷ record { task = Run NonAtomicMode (body_of rule.alpha); label = 153; next = 154; on_fail = 0; rank = 0 }
+    ∷ record { task = Run NonAtomicMode (body_of rule.alpha_num); label = 155; next = 156; on_fail = 0; rank = 0 }
+    ∷ record { task = Run CompoundAtomicMode (body_of rule.string); label = 157; next = 158; on_fail = 0; rank = 0 }
+    ∷ record { task = Run NonAtomicMode (body_of rule.insensitive_string); label = 159; next = 160; on_fail = 0; rank = 0 }
+    ∷ record { task = Run NonAtomicMode (body_of rule.range); label = 161; next = 162; on_fail = 0; rank = 0 }
+    ∷ record { task = Run CompoundAtomicMode (body_of rule.character); label = 163; next = 164; on_fail = 0; rank = 0 }
+    ∷ record { task = Run AtomicMode (body_of rule.inner_str); label = 165; next = 166; on_fail = 0; rank = 0 }
+    ∷ record { task = Run AtomicMode (body_of rule.inner_chr); label = 167; next = 168; on_fail = 0; rank = 0 }
+    ∷ record { task = Run AtomicMode (body_of rule.escape); label = 169; next = 170; on_fail = 0; rank = 0 }
+    ∷ record { task = Run AtomicMode (body_of rule.code); label = 171; next = 172; on_fail = 0; rank = 0 }
+    ∷ record { task = Run AtomicMode (body_of rule.unicode); label = 173; next = 174; on_fail = 0; rank = 0 }
+    ∷ record { task = Run AtomicMode (body_of rule.hex_digit); label = 175; next = 176; on_fail = 0; rank = 0 }
+    ∷ record { task = Run NonAtomicMode (body_of rule.quote); label = 177; next = 178; on_fail = 0; rank = 0 }
+    ∷ record { task = Run NonAtomicMode (body_of rule.single_quote); label = 179; next = 180; on_fail = 0; rank = 0 }
+    ∷ record { task = Run NonAtomicMode (body_of rule.range_operator); label = 181; next = 182; on_fail = 0; rank = 0 }
+    ∷ record { task = Run NonAtomicMode (body_of rule.newline); label = 183; next = 184; on_fail = 0; rank = 0 }
+    ∷ record { task = Run AtomicMode (body_of rule.WHITESPACE); label = 185; next = 186; on_fail = 0; rank = 0 }
+    ∷ record { task = Run NonAtomicMode (body_of rule.line_comment); label = 187; next = 188; on_fail = 0; rank = 0 }
+    ∷ record { task = Run NonAtomicMode (body_of rule.block_comment); label = 189; next = 190; on_fail = 0; rank = 0 }
+    ∷ record { task = Run AtomicMode (body_of rule.COMMENT); label = 191; next = 192; on_fail = 0; rank = 0 }
+    ∷ record { task = Run NonAtomicMode (body_of rule.space); label = 193; next = 194; on_fail = 0; rank = 0 }
+    ∷ record { task = Run CompoundAtomicMode (body_of rule.grammar_doc); label = 195; next = 196; on_fail = 0; rank = 0 }
+    ∷ record { task = Run CompoundAtomicMode (body_of rule.line_doc); label = 197; next = 198; on_fail = 0; rank = 0 }
+    ∷ record { task = Run AtomicMode (body_of rule.inner_doc); label = 199; next = 200; on_fail = 0; rank = 0 }
+    ∷ record { task = Run AtomicMode (body_of rule.number); label = 986; next = 987; on_fail = 0; rank = 0 }
+    ∷ record { task = Run CompoundAtomicMode (body_of rule.quote); label = 1167; next = 1168; on_fail = 0; rank = 0 }
+    ∷ record { task = Run CompoundAtomicMode (body_of rule.single_quote); label = 1216; next = 1217; on_fail = 0; rank = 0 }
+    ∷ record { task = Run AtomicMode (body_of rule.escape); label = 1223; next = 1224; on_fail = 0; rank = 0 }
+    ∷ record { task = Run AtomicMode (body_of rule.inner_str); label = 1225; next = 1226; on_fail = 0; rank = 0 }
+    ∷ record { task = Run AtomicMode (body_of rule.code); label = 1234; next = 1235; on_fail = 0; rank = 0 }
+    ∷ record { task = Run AtomicMode (body_of rule.unicode); label = 1236; next = 1237; on_fail = 0; rank = 0 }
     ∷ []
 
 at_grammar_rules_plain_apart : IsPoint called (Run NonAtomicMode (body_of rule.grammar_rules)) 71 72 0

@@ -48,7 +48,7 @@ in_either (x ∷ xs) here = inl here
 in_either (x ∷ xs) (later i) = elim (in_either xs i) [ inl a ↦ inl (later a) | inr b ↦ inr b ]
 
 abbrev point : Task → ℕ → ℕ → ℕ → ℕ → Point
-point k l n w r = record { task = k; label = l; next = n; way = w; rank = r }
+point k l n w r = record { task = k; label = l; next = n; on_fail = w; rank = r }
 
 abbrev is_point : {k : Task} {l n w r : ℕ} {xs : List Point} → In (point k l n w r) xs → IsPoint xs k l n w
 is_point {r = r} i = record { place = place_of i; rank = r; within = place_within i; is = there i }
@@ -105,7 +105,7 @@ module _ (exact : Bool) (g : Grammar) (classes : Classes) (code : CodeLists) (nu
     AreIn xs = (p : Point) → In p xs → In p points
 
     abbrev IsLaid : Point → Type 0
-    IsLaid p = Lays exact g classes code number points p.rank p.task p.label p.next p.way
+    IsLaid p = Lays exact g classes code number points p.rank p.task p.label p.next p.on_fail
 
     laid_top : {k : Task} {l n w : ℕ} (t : LaysAll exact g classes code number called k l n w) → AreIn (below t) → IsLaid (top t)
     laid_top (leaf f i o p) x = lay.leaf f i o p
@@ -175,7 +175,7 @@ module _ (exact : Bool) (g : Grammar) (classes : Classes) (code : CodeLists) (nu
 
   -- each point of the list is among them, with another rank
   has_point : {ps : List Point} (d : AreLaidAll exact g classes code number called ps) (i : ℕ) → i < length ps
-      → let p = get_or ps i no_point in (r : ℕ) × In (point p.task p.label p.next p.way r) (all_points d)
+      → let p = get_or ps i no_point in (r : ℕ) × In (point p.task p.label p.next p.on_fail r) (all_points d)
   has_point done i h = absurd (omega (arith, h))
   has_point (also t d) zero h = (height t, here)
   has_point (also t d) (suc i) h = let x = has_point d i (omega (arith, h)) in (x.0, in_second (top t ∷ below t) x.1)
@@ -183,7 +183,7 @@ module _ (exact : Bool) (g : Grammar) (classes : Classes) (code : CodeLists) (nu
   has_points : {ps : List Point} (d : AreLaidAll exact g classes code number called ps) (k : Task) (l n w : ℕ) → IsPoint ps k l n w → IsPoint (all_points d) k l n w
   has_points d k l n w p =
       let x = has_point d p.place p.within in
-      is_point (subst (λ q. In (point q.task q.label q.next q.way x.0) (all_points d)) p.is x.1)
+      is_point (subst (λ q. In (point q.task q.label q.next q.on_fail x.0) (all_points d)) p.is x.1)
 
   module _ (points : List Point) (has : (k : Task) (l n w : ℕ) → IsPoint called k l n w → IsPoint points k l n w) where
     laid_in : {ps : List Point} (d : AreLaidAll exact g classes code number called ps) → AreIn points has (all_points d) → (q : Point) → In q (all_points d) → IsLaid points has q

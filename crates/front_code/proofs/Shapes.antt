@@ -49,7 +49,7 @@ ascii (c ∷ t) h =
 
 -- a point of a list by its place
 pub at_point : (called : List Point) {k : Task} {l n w : ℕ} (i : ℕ) → nat_lt i (length called) ≡ true
-    → get_or called i no_point ≡ record { task = k; label = l; next = n; way = w; rank = 0 } → IsPoint called k l n w
+    → get_or called i no_point ≡ record { task = k; label = l; next = n; on_fail = w; rank = 0 } → IsPoint called k l n w
 at_point called i h e = record { place = i; rank = 0; within = ltb-true i (length called) h; is = e }
 
 -- a program and its parts, exact or not, and the points that are called; classes, of which none is asked

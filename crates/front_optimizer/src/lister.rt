@@ -15,9 +15,12 @@ use base_ast::ast::{Expr, Rule};
 use base_ast::deep::Deep;
 use std::alloc::{AllocError, Global};
 
-/// Returns the rule with each `(x ~ y)* ~ x` as `x ~ (y ~ x)*`, inner ones first. Name and type stay.
-/// Where an Atomic or CompoundAtomic rule is such a list, the result matches all that the rule matched;
-/// else a listed rule may match otherwise. The only fault is an allocation failure.
+/// Rewrites each `(x ~ y)* ~ x` in the rule to `x ~ (y ~ x)*`, inner ones first. Name and type stay. If an
+/// Atomic or CompoundAtomic rule is such a list, the result matches everything that the rule matched.
+/// Otherwise a rewritten rule may match other texts.
+///
+/// # Errors
+/// `Fault::Memory` if an allocation fails.
 pub fn list(alloc: Global, rule: Rule) -> Result<Rule, Fault>
     ensures name { IfOk result (λ r. text_of r.name ≡ text_of rule.name) }
     ensures ty { IfOk result (λ r. r.ty ≡ rule.ty) }

@@ -20,12 +20,16 @@ use front_restorer::restore_rules;
 use std::alloc::Global;
 use std::collections::HashMap;
 
-/// Returns the optimized rules, in order: `rotate`, `skip`, `unroll`, `concatenate`, `factor` and `list`
-/// are done in each, and `skip` looks names up in the rules as they were handed in; then wrappers are put
-/// in, as `restore_on_err` does. Names and types stay. Up to the listing, if no rule is named `ANY`, the
-/// outcomes from every start are those of the rules that were handed in. Where `WHITESPACE` and `COMMENT`
-/// reach no `POP` and no `POP_ALL`, it does not matter for the rules that are answered what a failed
-/// `POP` or `POP_ALL` leaves of the stack. The only fault is an allocation failure.
+/// Optimizes `rules`, in order. Each rule goes through `rotate`, `skip`, `unroll`, `concatenate`, `factor`
+/// and `list`, and then gets wrappers, as by `restore_on_err`. `skip` looks names up in `rules` as they
+/// were given. Names and types stay.
+///
+/// If no rule is named `ANY`, all passes before `list` keep the outcomes from every start. If `WHITESPACE`
+/// and `COMMENT` reach no `POP` and no `POP_ALL`, it makes no difference for the result what a failed `POP`
+/// or `POP_ALL` leaves on the stack.
+///
+/// # Errors
+/// `Fault::Memory` if an allocation fails.
 pub fn optimize(alloc: Global, rules: Vec<Rule>) -> Result<Vec<OptimizedRule>, Fault>
     ensures rules { IfOk result
         (λ answer. IsOptimized (rules_of rules.items) (optimized_rules_of answer.items)) }

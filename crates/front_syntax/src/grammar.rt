@@ -24,16 +24,17 @@ use std::alloc::{AllocError, Global};
 pub struct PestParser;
 
 impl PestParser {
-    /// Returns the pairs that the text spells for a rule, from its start on, or one error at the position
-    /// of the failure.
+    /// Parses `text` by the rule `rule` of the meta-grammar, from position 0. Returns the pairs.
     ///
-    /// The rule is matched by the meaning of expressions over the meta-grammar at position 0, in NonAtomic,
-    /// with the empty stack. A match may stop before the end, except where the rule asks for `EOI`.
-    /// `Rule::EOI` gives one pair from 0 to 0 on the empty text, and fails at 0 elsewhere.
+    /// The rule is matched by docs/SPEC.md, in NonAtomic and with the empty stack. If the rule does not ask
+    /// for `EOI`, the match may end before the end of the text. `Rule::EOI` gives one pair from 0 to 0 on
+    /// the empty text, and fails at 0 on any other text.
     ///
-    /// The error is a `ParsingError` at the greatest position, in bytes, at which a rule that gives a
-    /// token, or `EOI`, was called and failed, in a mode other than Atomic and in any branch; at 0 where
-    /// there is none. Any other fault is an allocation failure, as which a text of 2^32 bytes counts.
+    /// # Errors
+    /// - `Fault::Grammar` with one `ParsingError` if the rule fails. Its position, in bytes, is the
+    ///   furthest at which a counted call failed, in any branch. Calls of `EOI` and of rules that give a
+    ///   token count, in any mode except Atomic. If there is none, the position is 0.
+    /// - `Fault::Memory` if an allocation fails, or if `text` has 2^32 bytes or more.
     pub fn parse(alloc: Global, rule: Rule, text: &str) -> Result<Pairs<'_, Rule>, Fault>
         ensures text { IfOk result (λ pairs. pairs_text pairs ≡ text.entry.now) }
         ensures spelled { MatchResult result (AreSpelled rule) (ParseRefuses rule text.entry.now) }
@@ -53,9 +54,12 @@ impl PestParser {
         Ok(Forest::new(text, trees))
     }
 
-    /// Returns the trees that the text spells for a rule as one flat list: an entry where a tree starts and
-    /// one where it ends, in order, with the index of the other. Positions are in bytes. The errors are
-    /// those of `parse`.
+    /// Parses `text` by the rule `rule`, as `parse`. Returns the trees as one flat list, in text order: an
+    /// entry for the start of each tree and one for its end, each with the index of the other. Positions
+    /// are in bytes.
+    ///
+    /// # Errors
+    /// Those of `parse`.
     pub fn tokens(alloc: Global, rule: Rule, text: &str) -> Result<Vec<Entry>, Fault>
         ensures trees { MatchResult result
             (λ v. AreTokensOf rule text.now v.items) (ParseRefuses rule text.now) }
@@ -65,15 +69,18 @@ impl PestParser {
         Ok(write_entries(alloc, &nodes)?)
     }
 
-    /// Returns the expected set at the position of the error of `parse`, `EOI` included, in the order of the
-    /// meta-grammar (`EOI` first), without repetitions.
+    /// Returns the rules that were expected at the position of the error of `parse`, each once, in the
+    /// order of the meta-grammar, with `EOI` first.
     ///
-    /// A rule is expected there if a call of it that began at that position failed, gives a token, was made
-    /// in a mode other than Atomic and not below a `!`, and is within no other such call. The list is empty
-    /// where `parse` gives pairs, and where all failures at that position were below a `!`.
+    /// A rule is expected there if a call of it began there and failed. The call gives a token, its mode is
+    /// not Atomic, and it is neither below a `!` nor inside another such call. The list is empty if `parse`
+    /// succeeds, or if every failure at that position is below a `!`.
     ///
-    /// A text that fails is read twice, and another one once: call this where `parse` refused the text. The
-    /// only error is allocation failure, as which a text of 2^32 bytes counts.
+    /// A text that fails is read twice, any other text once. So call this only if `parse` has refused the
+    /// text.
+    ///
+    /// # Errors
+    /// `AllocError` if an allocation fails, or if `text` has 2^32 bytes or more.
     pub fn expected_set(alloc: Global, rule: Rule, text: &str) -> Result<Vec<Rule>, AllocError>
         ensures nothing { IfOk result (λ rules. ExpectsNothing rule text.now rules.items) }
         ensures expected { IfOk result (λ rules. AreExpected rule text.now rules.items) }

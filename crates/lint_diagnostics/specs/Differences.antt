@@ -1,10 +1,10 @@
 -- Texts on which a rule ends otherwise as pest runs it than as it is written.
 use Rattle.std.specs.Prelude.{◌≡◌, ◌≢◌, ℕ, List, IfSome, string_bytes}
 use Rattle.std.specs.Borrow.{Bor}
-use Rattle.matcher_program.specs.Programs.{Fits}
 use Rattle.matcher_program.specs.Refusals.{IsReason}
 use Rattle.matcher_program.specs.declared.compile.Unfit.{Unfit}
 use Rattle.matcher_program.specs.declared.compile.Unfit.TheVariants as unfit
+use Rattle.matcher_support.specs.Compiled.{IsCompiled}
 use Rattle.matcher_support.specs.Sets.{has_set, is_in_property}
 use Rattle.base_ast.specs.Optimized.{optimized_rules_of}
 use Rattle.base_ast.specs.declared.optimized.OptimizedRule.{OptimizedRule}
@@ -13,8 +13,6 @@ use Rattle.base_language.specs.Language.State.{State, Trees, Success, Failure}
 use Rattle.base_language.specs.Language.Text.{Text}
 use Rattle.front_spanned.specs.Spanned.{SpannedRule}
 use Rattle.matcher_program.specs.Answers.{Has}
-use Rattle.matcher_engine.specs.Matchers.{grammar_in, properties_in}
-use Rattle.matcher_engine.specs.declared.matcher.Matcher.{Matcher}
 use Rattle.lint_diagnostics.specs.declared.comparer.Comparer.{Comparer}
 use Rattle.lint_diagnostics.specs.declared.comparer.RunnableForms.{RunnableForms}
 use Rattle.lint_diagnostics.specs.declared.difference.Difference.{Difference}
@@ -55,16 +53,14 @@ pub record ShowsDifference (grammar : List ℕ) (n : Text) (d : Difference) : Ty
   pub are_optimized : AreOptimized grammar optimized
   pub distinguishes : Distinguishes written optimized n d
 
--- a matcher that has the sets of Unicode for property names
-abbrev pub IsRunnable : Matcher → Type 0
-IsRunnable matcher = Fits (properties_in matcher) is_in_property
-
--- both forms of a grammar's rules
+-- both forms of a grammar's rules, compiled
 pub record AreForms (grammar : List ℕ) (forms : RunnableForms) : Type 0 where
-  pub are_written : IsWritten grammar (grammar_in forms.written)
-  pub are_optimized : AreOptimized grammar (grammar_in forms.optimized)
-  pub written : IsRunnable forms.written
-  pub optimized : IsRunnable forms.optimized
+  pub first : List OptimizedRule
+  pub second : List OptimizedRule
+  pub are_written : IsWritten grammar (optimized_rules_of first)
+  pub are_optimized : AreOptimized grammar (optimized_rules_of second)
+  pub written : IsCompiled first forms.written.items
+  pub optimized : IsCompiled second forms.optimized.items
 
 -- rules cannot be run: a name in them is unknown, or a bound of a range is not one character
 abbrev pub CannotRun : Grammar → Type 0

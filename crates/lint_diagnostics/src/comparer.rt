@@ -3,8 +3,10 @@ ghost use Rattle.std.specs.Prelude.{◌≡◌, ℕ, List, IfNone, IfOk, IfSome, 
 ghost use Rattle.base_ast.specs.Optimized.{optimized_rules_of};
 ghost use Rattle.front_spanned.specs.Nodes.{rule_views};
 ghost use Rattle.lint_diagnostics.specs.Differences.{AreForms, AreOptimized, Distinguishes, EndsAs, IsSpelled};
-ghost use Rattle.lint_diagnostics.specs.Differences.{CannotRun, IsComparer, IsRunnable, LacksForms, ShowsDifference};
-ghost use Rattle.matcher_engine.specs.Matchers.{grammar_in};
+ghost use Rattle.lint_diagnostics.specs.Differences.{CannotRun, IsComparer, LacksForms, ShowsDifference};
+ghost use Rattle.base_ast.specs.declared.optimized.OptimizedRule.{OptimizedRule};
+ghost use Rattle.base_language.specs.Language.Expression.{Grammar};
+ghost use Rattle.matcher_support.specs.Compiled.{IsCompiled, IsCompiledOf};
 ghost use Rattle.pest_meta.specs.Written.{IsWritten};
 
 use crate::difference::{Difference, RuleEnd};
@@ -13,9 +15,10 @@ use base_ast::deep::Deep;
 use base_ast::optimized::OptimizedRule;
 use front_optimizer::{optimize, unroll_rules};
 use front_spanned::{ParserRule, copy_rules};
-use matcher_engine::matcher::Matcher;
-use matcher_program::answers::{Refusal, Stop};
+use matcher_engine::block::{BlockStop, compile_block};
+use matcher_program::answers::Stop;
 use matcher_program::compile::Unfit;
+use matcher_support::compiled::CompiledGrammar;
 use matcher_support::unicode_properties::UnicodeProperties;
 use std::alloc::{AllocError, Global};
 
@@ -26,15 +29,15 @@ const MOST_STEPS: u64 = 400;
 #[derive(Drop)]
 pub struct RunnableForms {
     pub rules: Deep<Vec<OptimizedRule>>,
-    pub written: Matcher,
-    pub optimized: Matcher,
+    pub written: Vec<u8>,
+    pub optimized: Vec<u8>,
 }
 
 /// The rules of a grammar as they are written, and as pest runs them.
 #[derive(Drop)]
 pub struct Comparer<'t> {
     pub grammar: &'t str,
-    /// None where the rules cannot be run.
+    /// None if the rules cannot be run.
     pub forms: Option<RunnableForms>,
 }
 
@@ -57,7 +60,7 @@ impl<'t> Comparer<'t> {
 
     /// Looks for a text on which the rule of a name ends otherwise as pest runs it than as it is written.
     /// Only some texts are tried, those of fewer pieces first; the returned one need not be the shortest. The
-    /// only error is an allocation failure. The time is bounded, but for an index of the rules.
+    /// only error is an allocation failure. The time is bounded, except for an index of the rules.
     pub fn distinguishing_text(
         &self,
         alloc: Global,
@@ -76,71 +79,88 @@ impl<'t> Comparer<'t> {
 }
 
 impl RunnableForms {
-    /// Returns the first of some texts on which the rule of a name ends otherwise.
+    /// Returns the first of `texts` on which the rule named `rule` ends otherwise.
     fn first_difference(
         &self,
         alloc: Global,
         rule: &str,
         texts: &[String],
     ) -> Result<Option<Difference>, AllocError>
-        requires written { IsRunnable self.now.written }
-        requires optimized { IsRunnable self.now.optimized }
-        ensures { IfOk result (λ found. IfSome found (Distinguishes (grammar_in self.now.written)
-            (grammar_in self.now.optimized) (chars rule.now))) }
+        ensures { (g h : List OptimizedRule) → IsCompiled g self.now.written.items
+            → IsCompiled h self.now.optimized.items → IfOk result (λ found. IfSome found
+            (Distinguishes (optimized_rules_of g) (optimized_rules_of h) (chars rule.now))) }
     {
-        for text in texts {
-            if let Some(difference) = self.difference_on(alloc, rule, text.as_str())? {
-                return Ok(Some(difference));
-            }
-        }
-        Ok(None)
+        let Some(written) = CompiledGrammar::read(alloc, &self.written)? else {
+            return Ok(None);
+        };
+        let Some(optimized) = CompiledGrammar::read(alloc, &self.optimized)? else {
+            return Ok(None);
+        };
+        find_first(alloc, &written, &optimized, rule, texts)
     }
+}
 
-    /// Returns a text with both ends of the rule of a name, if they are known and not the same.
-    fn difference_on(
-        &self,
-        alloc: Global,
-        rule: &str,
-        text: &str,
-    ) -> Result<Option<Difference>, AllocError>
-        requires written { IsRunnable self.now.written }
-        requires optimized { IsRunnable self.now.optimized }
-        ensures { IfOk result (λ found. IfSome found (Distinguishes (grammar_in self.now.written)
-            (grammar_in self.now.optimized) (chars rule.now))) }
-    {
-        let Some(written) = end_of(alloc, &self.written, rule, text)? else {
-            return Ok(None);
-        };
-        let Some(optimized) = end_of(alloc, &self.optimized, rule, text)? else {
-            return Ok(None);
-        };
-        if written == optimized {
-            return Ok(None);
+/// Returns the first of `texts` on which the rule named `rule` ends otherwise by the second grammar.
+fn find_first(
+    alloc: Global,
+    written: &CompiledGrammar<'_>,
+    optimized: &CompiledGrammar<'_>,
+    rule: &str,
+    texts: &[String],
+) -> Result<Option<Difference>, AllocError>
+    ensures { (g h : Grammar) → IsCompiledOf g written.now → IsCompiledOf h optimized.now
+        → IfOk result (λ found. IfSome found (Distinguishes g h (chars rule.now))) }
+{
+    for text in texts {
+        if let Some(difference) = difference_on(alloc, written, optimized, rule, text.as_str())? {
+            return Ok(Some(difference));
         }
-        let text = String::from_str(alloc, text)?;
-        Ok(Some(Difference {
-            text,
-            written,
-            optimized,
-        }))
     }
+    Ok(None)
+}
+
+/// Returns `text` with both ends of the rule named `rule`, if the ends are known and not the same.
+fn difference_on(
+    alloc: Global,
+    written: &CompiledGrammar<'_>,
+    optimized: &CompiledGrammar<'_>,
+    rule: &str,
+    text: &str,
+) -> Result<Option<Difference>, AllocError>
+    ensures { (g h : Grammar) → IsCompiledOf g written.now → IsCompiledOf h optimized.now
+        → IfOk result (λ found. IfSome found (Distinguishes g h (chars rule.now))) }
+{
+    let Some(first) = end_of(alloc, written, rule, text)? else {
+        return Ok(None);
+    };
+    let Some(second) = end_of(alloc, optimized, rule, text)? else {
+        return Ok(None);
+    };
+    if first == second {
+        return Ok(None);
+    }
+    let text = String::from_str(alloc, text)?;
+    Ok(Some(Difference {
+        text,
+        written: first,
+        optimized: second,
+    }))
 }
 
 /// Returns the end of a rule on a text, or none if the run takes too many steps, or has no outcome.
 fn end_of(
     alloc: Global,
-    matcher: &Matcher,
+    rules: &CompiledGrammar<'_>,
     rule: &str,
     text: &str,
 ) -> Result<Option<RuleEnd>, AllocError>
-    requires { IsRunnable matcher.now }
-    ensures { IfOk result (λ found.
-        IfSome found (EndsAs (grammar_in matcher.now) (chars rule.now) text.now)) }
+    ensures { (g : Grammar) → IsCompiledOf g rules.now
+        → IfOk result (λ found. IfSome found (EndsAs g (chars rule.now) text.now)) }
 {
-    match matcher.match_text(alloc, rule, text, MOST_STEPS) {
+    match rules.match_text(alloc, rule, text, Some(MOST_STEPS)) {
         Ok(found) => Ok(Some(RuleEnd::At(found.end))),
-        Err(Refusal::NoMatch(_)) => Ok(Some(RuleEnd::Failure)),
-        Err(Refusal::Stopped(Stop::Memory)) => Err(AllocError),
+        Err(BlockStop::NoMatch(_)) => Ok(Some(RuleEnd::Failure)),
+        Err(BlockStop::Stopped(Stop::Memory)) => Err(AllocError),
         Err(_) => Ok(None),
     }
 }
@@ -198,14 +218,12 @@ fn optimize_copy(
 }
 
 /// Compiles rules, or returns none if they cannot be run.
-fn compile(alloc: Global, rules: &[OptimizedRule]) -> Result<Option<Matcher>, AllocError>
-    ensures means { IfOk result (λ found. IfSome found (λ matcher.
-        grammar_in matcher ≡ optimized_rules_of rules.now)) }
-    ensures runnable { IfOk result (λ found. IfSome found IsRunnable) }
+fn compile(alloc: Global, rules: &[OptimizedRule]) -> Result<Option<Vec<u8>>, AllocError>
+    ensures compiled { IfOk result (λ found. IfSome found (λ block. IsCompiled rules.now block.items)) }
     ensures unfit { IfOk result (λ found. IfNone found (CannotRun (optimized_rules_of rules.now))) }
 {
-    match Matcher::new(alloc, rules, &UnicodeProperties) {
-        Ok(matcher) => Ok(Some(matcher)),
+    match compile_block(alloc, rules, &UnicodeProperties) {
+        Ok(block) => Ok(Some(block)),
         Err(Unfit::Memory) => Err(AllocError),
         Err(Unfit::UnknownName(_) | Unfit::Bound(_)) => Ok(None),
     }

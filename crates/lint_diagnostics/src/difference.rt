@@ -28,7 +28,7 @@ pub struct Difference {
 
 impl Difference {
     /// Returns a line that shows the text and both ends, with hidden characters as escapes; none if an end is
-    /// within a character. The only error is an allocation failure.
+    /// inside a character. The only error is an allocation failure.
     pub fn message(&self, alloc: Global) -> Result<Option<String>, AllocError>
         ensures text { IfOk result (λ found. IfSome found (λ message.
             string_bytes message ≡ spec.difference_message self.now)) }
@@ -49,7 +49,7 @@ impl Difference {
     }
 }
 
-/// Returns the words for an end on a text, or none if it is within a character.
+/// Returns the words for an end on a text, or none if it is inside a character.
 fn end_message(alloc: Global, text: &str, end: RuleEnd) -> Result<Option<String>, AllocError>
     ensures text { IfOk result (λ found. IfSome found (λ message.
         string_bytes message ≡ spec.end_message text.now end)) }

@@ -42,8 +42,11 @@ const MOST_NOTES: usize = 10;
 /// The most rules of a grammar whose warnings have notes: both forms of all rules are compiled for these.
 const MOST_RULES: usize = 200;
 
-/// The diagnostics of a text: the errors with which `parse_and_optimize` refuses it, in their order, or else
-/// its warnings, but for those that comments allow. The only error is an allocation failure.
+/// Returns the diagnostics of the grammar `text`. If `parse_and_optimize` refuses the text, they are its
+/// errors, in their order. Otherwise they are its warnings, except those that comments allow.
+///
+/// # Errors
+/// `AllocError` if an allocation fails.
 pub fn diagnose(
     alloc: Global,
     text: &str,
@@ -57,8 +60,7 @@ pub fn diagnose(
     diagnose_with(alloc, text, options.starts, false)
 }
 
-/// The diagnostics of a text, as by `diagnose`, and the warnings that are reported only where all are asked
-/// for.
+/// Returns the diagnostics of `diagnose`, and the warnings that are reported on request.
 pub fn diagnose_all(
     alloc: Global,
     text: &str,

@@ -36,13 +36,13 @@ impl<'r> RuleBodies<'r> {
         Ok(RuleBodies { bodies })
     }
 
-    /// The body of the rule of a name.
+    /// The body of the rule named `name`.
     fn body_of(&self, name: &str) -> Option<&'r OptimizedExpr> {
         self.bodies.get(name).copied()
     }
 }
 
-/// Returns the pieces of the rule of a name, without duplicates; none if no rule has it.
+/// Returns the pieces of the rule named `rule`, without duplicates. If no rule has the name, there are none.
 pub(crate) fn pieces_of(
     alloc: Global,
     bodies: &RuleBodies<'_>,
@@ -193,7 +193,7 @@ fn sample_character(set: CharSet) -> &'static str
     }
 }
 
-/// A character with a Unicode property, where the name is one of a few, and else `a`.
+/// A character with the Unicode property named `name`, if that is one of a few, or else `a`.
 fn property_text(name: &str) -> &'static str {
     match name {
         "WHITE_SPACE" | "SPACE_SEPARATOR" => " ",

@@ -6,8 +6,8 @@ use std::alloc::{AllocError, Global};
 /// The most texts for a rule.
 const MOST_TEXTS: usize = 200;
 
-/// Returns texts for the rule of a name: the empty one, and those that are made of its pieces, fewer pieces
-/// first, up to a bound.
+/// Returns texts for a rule: the empty one, and texts that are made of the rule's pieces. Texts of fewer
+/// pieces come first. Their number is bounded.
 pub(crate) fn candidate_texts(
     alloc: Global,
     rules: &[OptimizedRule],

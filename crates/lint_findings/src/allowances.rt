@@ -28,13 +28,13 @@ const MOST_ALLOWANCES: usize = 256;
 pub struct Allowance {
     /// The code that it names, if there is one of that name.
     pub code: Option<Code>,
-    /// Where the comment begins.
+    /// The byte at which the comment begins.
     pub start: usize,
-    /// Where the comment ends.
+    /// The byte after the comment.
     pub end: usize,
-    /// Where the name of the rule begins.
+    /// The byte at which the name of the rule begins.
     pub first: usize,
-    /// Where the body of the rule ends.
+    /// The byte after the body of the rule.
     pub last: usize,
 }
 
@@ -146,7 +146,7 @@ fn has_blank_end(lines: &[Fragment<'_>]) -> bool
     }
 }
 
-/// The index of the first of the comments that stand last among lines.
+/// The index of the first of the comments at the end of `lines`.
 fn first_of_comments(lines: &[Fragment<'_>]) -> usize
     ensures within { result ≤ length lines.now }
     ensures first { result ≡ length lines.now - suffix_len is_comment (map fragment_of lines.now) }
@@ -213,8 +213,8 @@ fn unused_among(
         .collect(alloc)
 }
 
-/// Whether an allowance allows none of these diagnostics, and its code is not one that is reported only where
-/// it is asked for.
+/// Whether an allowance allows none of these diagnostics, and its code is not one that is reported only if it
+/// is asked for.
 fn is_unused(diagnostics: &[Diagnostic], allowance: Allowance) -> bool
     ensures { result ≡ spec.is_unused diagnostics.now allowance }
 {
@@ -230,7 +230,7 @@ fn is_used(diagnostics: &[Diagnostic], allowance: Allowance) -> bool
         .any(|diagnostic| is_allowed_by(diagnostic, allowance))
 }
 
-/// Whether the code of an allowance is reported only where it is asked for.
+/// Whether the code of an allowance is reported only if it is asked for.
 fn is_of_option(allowance: Allowance) -> bool
     ensures { result ≡ spec.is_of_option allowance.code }
 {

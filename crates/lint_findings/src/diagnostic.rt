@@ -13,7 +13,7 @@ pub struct Diagnostic {
     pub severity: Severity,
     /// The byte at which it begins.
     pub start: usize,
-    /// The byte before which it ends; the start itself where it is a position.
+    /// The byte after its end. If it is a position, this is its start.
     pub end: usize,
     pub message: String,
     /// The expected set of a syntax error, by name, in the order of the meta-grammar.

@@ -31,8 +31,8 @@ impl<'t> Fragment<'t> {
         }
     }
 
-    /// The part of a text from a byte up to another; an empty one where these are not in order, or no
-    /// bounds of characters.
+    /// The part of a text from the byte `from` up to the byte `to`. It is empty if these are not in order, or
+    /// not at the bounds of characters.
     pub(crate) fn between(text: &'t str, from: usize, to: usize) -> Self
         ensures { IsCharBoundary text.now from → IsCharBoundary text.now to
             → fragment_of result ≡ between text.now from to }

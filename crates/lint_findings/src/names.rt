@@ -61,7 +61,7 @@ pub(crate) fn builtin_names<'i>(
     Ok(found)
 }
 
-/// Adds the span of a rule's name where it is a keyword of Rust.
+/// Adds the span of a rule's name, if the name is a keyword of Rust.
 fn add_keyword<'i>(rule: &ParserRule<'i>, found: &mut Vec<Span<'i>>) -> Result<(), AllocError>
     ensures { OnOk result (map piece_of found.new.items
         ≡ map piece_of found.old.items ++ spec.named_at spec.is_keyword (rule_view rule.now)) }
@@ -72,7 +72,7 @@ fn add_keyword<'i>(rule: &ParserRule<'i>, found: &mut Vec<Span<'i>>) -> Result<(
     Ok(())
 }
 
-/// Adds the span of a rule's name where it is that of a builtin.
+/// Adds the span of a rule's name, if the name is that of a builtin.
 fn add_builtin<'i>(rule: &ParserRule<'i>, found: &mut Vec<Span<'i>>) -> Result<(), AllocError>
     ensures { OnOk result (map piece_of found.new.items
         ≡ map piece_of found.old.items ++ spec.named_at spec.is_builtin_name (rule_view rule.now)) }

@@ -10,9 +10,9 @@ use std::alloc::{AllocError, Global};
 /// How a comment that names starts begins.
 const PREFIX: &str = "//! pest-lint: start(";
 
-/// The rules with which matching starts, as a text says itself: the names in its first line
-/// `//! pest-lint: start(a, b)`, in order; none where there is no such line. The time is linear in the text.
-/// The only error is an allocation failure.
+/// Returns the starts that a text states itself: the names in its first line `//! pest-lint: start(a, b)`, in
+/// order. If there is no such line, there are none. The time is linear in the bytes of the text. The only
+/// error is an allocation failure.
 pub fn stated_starts<'t>(alloc: Global, text: &'t str) -> Result<Vec<Fragment<'t>>, AllocError>
     ensures { IfOk result (λ names. map fragment_of names.items ≡ spec.stated_starts text.now) }
 {
@@ -61,7 +61,7 @@ fn names_in<'t>(alloc: Global, comment: Fragment<'t>) -> Result<Vec<Fragment<'t>
     Ok(names)
 }
 
-/// The part of such a comment behind its bracket, up to the next one or to its end.
+/// The part of such a comment after its bracket, up to the next bracket or to its end.
 fn inside_of<'t>(comment: Fragment<'t>) -> Fragment<'t>
     requires { spec.has_starts (fragment_of comment) ≡ true }
     ensures { fragment_of result ≡ spec.inside (fragment_of comment.entry) }

@@ -21,7 +21,7 @@ use lint_warnings::names_of;
 use std::alloc::{AllocError, Global};
 use std::collections::HashSet;
 
-/// Unknown starts for which another name is looked for, at most so many in a text.
+/// The greatest number of unknown starts of a text for which a similar name is looked for.
 const NAMES_LOOKED_UP: usize = 20;
 
 /// The warnings of those starts that no rule has. The only error is an allocation failure.

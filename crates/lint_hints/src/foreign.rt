@@ -62,7 +62,7 @@ fn mistake_of(c: char) -> ForeignMistake {
     }
 }
 
-/// The text that a character beyond ASCII stands for, where that is definite.
+/// The text that a character beyond ASCII stands for, if that is definite.
 fn replacement_of(c: char) -> Option<&'static str> {
     match mistake_of(c) {
         ForeignMistake::Blank if matches!(c, '\u{85}' | '\u{2028}' | '\u{2029}') => Some("\n"),

@@ -91,7 +91,8 @@ fn is_import(site: &Site<'_>, lexeme: Lexeme) -> bool {
     matches!(site.text_of(lexeme), "import" | "include" | "use")
 }
 
-/// The remedy of a comment that begins with other signs, so many; at the start of its line they are replaced.
+/// The remedy for a comment that begins with `length` other signs. If they are at the start of a line, they
+/// are replaced.
 fn line_comment(
     alloc: Global,
     site: &Site<'_>,
@@ -261,7 +262,7 @@ pub(crate) fn starts_doc(site: &Site<'_>) -> bool {
     site.part(site.position, site.position.saturating_add(3)) == "///"
 }
 
-/// The remedy where a rule begins before the last one is closed.
+/// The remedy for a rule that begins before the last one is closed.
 pub(crate) fn before_rule(alloc: Global, site: &Site<'_>) -> Result<Option<Remedy>, AllocError> {
     let last = site.previous_lexeme(1);
     if site.is_within(b'{') && site.open.len() == 1 && ends_term(last) {

@@ -151,7 +151,7 @@ static PEST_PROPERTIES: [&str; 144] = [
     "ZANABAZAR_SQUARE",
 ];
 
-/// Whether pest has a Unicode property of a name, and the front end has not.
+/// Whether pest has a Unicode property named `name`, and the front end has not.
 pub fn is_pest_property(name: &str) -> bool
     ensures { result ≡ spec.is_pest_property name.now }
 {

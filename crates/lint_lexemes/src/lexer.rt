@@ -108,7 +108,7 @@ fn is_name_byte(byte: u8) -> bool {
     byte.is_ascii_alphanumeric() || byte == b'_'
 }
 
-/// The byte after those of a name that are from a byte on.
+/// The byte after the part of a name that begins at the byte `start`.
 fn name_end(bytes: &[u8], start: usize) -> usize
     requires { start ≤ length bytes.now }
     ensures from { start ≤ result }
@@ -185,7 +185,7 @@ fn scan_text(bytes: &[u8], start: usize) -> (Option<LexemeClass>, usize)
     (Some(LexemeClass::OpenText), bytes.len())
 }
 
-/// A text in single quotes, or the quote alone where none closes it in its line.
+/// A text in single quotes, or the quote alone if none closes it in its line.
 fn scan_character(bytes: &[u8], start: usize) -> (Option<LexemeClass>, usize)
     requires { start < length bytes.now }
     ensures after { start < result.1 }

@@ -1,4 +1,4 @@
-//! Names of a grammar: where they are defined, and which is nearest to another.
+//! The names of a grammar: the positions of their definitions, and which name is nearest to another.
 ghost use Rattle.std.specs.Prelude.{◌≡◌, ◌+◌, ◌^◌, ◌<◌, ◌++◌, Contains, IfOk, IfSome, OnOk};
 ghost use Rattle.lint_lexemes.specs.Lexemes as spec;
 ghost use Rattle.lint_lexemes.specs.Lexemes.{AreDefined, bytes_of};

@@ -83,7 +83,7 @@ impl<'t> Site<'t> {
         self.part(lexeme.start, lexeme.end)
     }
 
-    /// The bytes `start..end` of the text; nothing where these are not characters.
+    /// The bytes `start..end` of the text, or nothing if these are not characters.
     pub fn part(&self, start: usize, end: usize) -> &'t str
         ensures { IsPart self.entry.now.text.now start end result.now }
     {
@@ -204,7 +204,7 @@ fn open_in(alloc: Global, lexemes: &[Lexeme]) -> Result<Vec<Lexeme>, AllocError>
     Ok(brackets)
 }
 
-/// Adds a bracket that opens, or takes the innermost away where one closes.
+/// Adds a bracket that opens, or takes the innermost away if one closes.
 fn change_open(lexeme: Lexeme, brackets: &mut Vec<Lexeme>) -> Result<(), AllocError>
     ensures { OnOk result (brackets.new.items ≡ spec.open_after brackets.old.items lexeme) }
 {

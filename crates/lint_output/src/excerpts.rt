@@ -27,14 +27,14 @@ pub(crate) fn push_excerpt(
     out.push('\n')
 }
 
-/// Adds as many blanks as a number has digits.
+/// Adds a blank for each digit of `number`.
 fn push_margin(alloc: Global, number: usize, out: &mut String) -> Result<(), AllocError>
     ensures { OnOk result (string_bytes out.new ≡ string_bytes out.old ++ margin number) }
 {
     out.push_str(margin_of(alloc, number)?.as_str())
 }
 
-/// Adds what a window shows of a line, with dots where it is cut.
+/// Adds what a window shows of a line, with dots at the ends at which the line is cut.
 fn push_cut(text: &str, window: Window, out: &mut String) -> Result<(), AllocError> {
     out.push_str(dots(window.is_cut_before))?;
     push_visible(part(text, window.start, window.end), out)?;

@@ -37,7 +37,8 @@ impl LineIndex {
         Ok(LineIndex { checkpoints })
     }
 
-    /// The location of a byte of the text that the index is of, or of its end for one behind it.
+    /// Returns the location of the byte `position` of the text that the index is made of. If the byte is
+    /// after the end of the text, it is the location of the end.
     pub fn locate(&self, text: &str, position: usize) -> Location
         ensures { IsIndexOf text.now self.now → result ≡ location_at text.now position }
     {

@@ -80,7 +80,7 @@ fn details(
     Ok(out)
 }
 
-/// A severity's name, in its colour where that is asked for.
+/// A severity's name, in its colour if that is asked for.
 fn heading_of(severity: Severity, has_colour: bool) -> &'static str
     ensures { result.now ≡ heading has_colour severity }
 {
@@ -147,7 +147,7 @@ fn push_help(
     }
 }
 
-/// The words before a help, in colour where that is asked for.
+/// The words before a help, in colour if that is asked for.
 fn help_heading(has_colour: bool) -> &'static str {
     if has_colour {
         "\x1b[1;36mhelp\x1b[0m: "

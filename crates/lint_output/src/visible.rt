@@ -41,7 +41,7 @@ pub(crate) fn push_shown(character: char, out: &mut String) -> Result<(), AllocE
     }
 }
 
-/// The columns that a text takes where it is printed so.
+/// Returns the number of columns of a text that is printed so.
 pub(crate) fn visible_width(text: &str) -> usize {
     let mut width = 0usize;
     for c in text.chars() {

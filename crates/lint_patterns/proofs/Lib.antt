@@ -12,5 +12,6 @@ pub mod SameBodies
 pub mod AlternativeStacks
 pub mod Unique
 pub mod CopyStacks
+pub mod SizeStacks
 pub mod Written
 pub mod Asking

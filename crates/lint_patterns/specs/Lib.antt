@@ -11,3 +11,4 @@ pub mod Copies
 pub mod CopyLaws
 pub mod CopyLists
 pub mod Ends
+pub mod Sizes

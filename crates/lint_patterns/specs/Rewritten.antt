@@ -1,5 +1,5 @@
 -- Rules with lists that the optimizer writes otherwise.
-use Rattle.std.specs.Prelude.{◌≡◌, ℕ, List, [], ◌∷◌, ◌++◌, Bool, true, false, ◌&&◌, ◌||◌, not, if◌then◌else◌, bytes_eq}
+use Rattle.std.specs.Prelude.{◌≡◌, ◌<◌, ◌≤◌, ℕ, List, [], ◌∷◌, ◌++◌, Bool, true, false, ◌&&◌, ◌||◌, not, if◌then◌else◌, bytes_eq}
 use Rattle.std.specs.List.{list_any}
 use Rattle.base_language.specs.Language.Expression.{Expression, Str, Ident, PosPred, NegPred, Seq, Choice, Opt, Rep, RepOnce, RepExact, RepMin, RepMax, RepMinMax, Push, NodeTag, RestoreOnErr, RuleType, Atomic, Rule}
 use Rattle.base_language.specs.Language.Text.{Text}
@@ -8,6 +8,7 @@ use Rattle.base_language.specs.Rewritings.Rewriting.{IsDone, Joins, Rotates}
 use Rattle.front_optimizer.specs.Passes.{IsFactoring, IsUnrolling}
 use Rattle.front_spanned.specs.Erasure.{without_spans}
 use Rattle.front_spanned.specs.Spanned.{Span, SpannedRule}
+use Rattle.lint_patterns.specs.Sizes.{nodes_of_rules}
 
 -- an expression and its parts, each before its own parts
 abbrev pub parts : Expression → List Expression
@@ -96,7 +97,12 @@ pub data AddsLists (f : Text → Bool) (r : SpannedRule) (old new : List Span) :
       → IsPassed r.type_of a b → new ≡ old ++ span_if_list f b r → AddsLists f r old new
 
 -- so rule by rule
-pub data FindsLists (f : Text → Bool) : List SpannedRule → List Span → Type 0 where
-  no_rules : FindsLists f [] []
+pub data FindsEach (f : Text → Bool) : List SpannedRule → List Span → Type 0 where
+  no_rules : FindsEach f [] []
   next_rule : {r : SpannedRule} {rs : List SpannedRule} {here found all : List Span} → AddsLists f r [] here
-      → FindsLists f rs found → all ≡ here ++ found → FindsLists f (r ∷ rs) all
+      → FindsEach f rs found → all ≡ here ++ found → FindsEach f (r ∷ rs) all
+
+-- rules of more than 1,000,000 nodes, where counts are written out, are not looked at
+pub data FindsLists (f : Text → Bool) (rules : List SpannedRule) (found : List Span) : Type 0 where
+  large : 1000000 < nodes_of_rules rules → found ≡ [] → FindsLists f rules found
+  looked_at : nodes_of_rules rules ≤ 1000000 → FindsEach f rules found → FindsLists f rules found

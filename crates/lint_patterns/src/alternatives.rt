@@ -15,7 +15,7 @@ use front_spanned::{ParserExpr, ParserNode, ParserRule};
 use std::alloc::{AllocError, Global};
 use std::collections::HashSet;
 
-/// The spans of alternatives that are the same as one before them in their choice, but for literals, calls
+/// The spans of alternatives that are the same as one before them in their choice, except for literals, calls
 /// and large ones: rule by rule, and in a body choice by choice. A choice inside a choice is part of it. The
 /// only error is an allocation failure. The time is linear in the rules.
 pub fn repeated_alternatives<'i>(
@@ -60,7 +60,7 @@ fn add_of_body<'i>(
     Ok(())
 }
 
-/// Adds the spans in the choice that a node is, where it is no alternative.
+/// Adds the spans in the choice that a node is, if it is no alternative.
 fn add_of_node<'i>(
     alloc: Global,
     place: Placed<'_, 'i>,

@@ -13,8 +13,8 @@ use front_spanned::ParserRule;
 use std::alloc::{AllocError, Global};
 use std::collections::{HashMap, HashSet};
 
-/// The spans of the names of rules with the type and the body of a rule before them, but for bodies that are
-/// literals, calls or large. The only error is an allocation failure. The time is linear in the rules.
+/// The spans of the names of rules with the type and the body of a rule before them, except for bodies that
+/// are literals, calls or large. The only error is an allocation failure. The time is linear in the rules.
 pub fn repeated_bodies<'i>(
     alloc: Global,
     rules: &[ParserRule<'i>],
@@ -30,8 +30,9 @@ pub fn repeated_bodies<'i>(
     Ok(found)
 }
 
-/// By the byte where the name of a rule with a repeated body begins, the bytes of the name of the first rule
-/// that has its type and body. The only error is an allocation failure. The time is linear in the rules.
+/// Returns a map for rules with a repeated body. Its keys are the bytes at which the names of these rules
+/// begin. Its values are the bytes of the name of the first rule that has the same type and body. The only
+/// error is an allocation failure. The time is linear in the number of nodes of the rules.
 pub fn first_bodies(
     alloc: Global,
     rules: &[ParserRule<'_>],
@@ -74,7 +75,7 @@ fn add_where_same<'i>(
     Ok(())
 }
 
-/// The key of a rule's type and body, where the body is compared.
+/// The key of a rule's type and body, if the body is compared.
 fn rule_key(alloc: Global, rule: &ParserRule<'_>) -> Result<Option<Vec<u32>>, AllocError>
     ensures { IfOk result (HasRuleKey (rule_view rule.now)) }
 {

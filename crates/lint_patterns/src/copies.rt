@@ -105,7 +105,7 @@ pub(crate) enum Branches<'n, 'i> {
 }
 
 /// The operands of a node.
-fn branches_of<'n, 'i>(node: &'n ParserNode<'i>) -> Branches<'n, 'i>
+pub(crate) fn branches_of<'n, 'i>(node: &'n ParserNode<'i>) -> Branches<'n, 'i>
     ensures { HasBranches (view node.entry.now) result }
 {
     use ParserExpr as E;

@@ -23,8 +23,8 @@ const LONGEST_CHAIN: usize = 32;
 /// The spans of the names of starts that never ask for the end of a text, so that matching leaves the rest of
 /// some texts, in order. A start is a rule that no other rule calls, if it calls `SOI` or is the only such
 /// rule of several. `EOI`, `!ANY`, `ANY*` and `ANY+` ask for the end, in it or by a chain of at most 32
-/// calls. Where `starts` names several rules and no rule asks for the end, there are none. The only error is
-/// an allocation failure. The time is linear in the rules.
+/// calls. If `starts` names several rules and no rule asks for the end, there are none. The only error is an
+/// allocation failure. The time is linear in the rules.
 pub fn open_starts<'n, 'i>(
     alloc: Global,
     rules: &'n [ParserRule<'i>],
@@ -43,7 +43,7 @@ pub fn open_starts<'n, 'i>(
     open_among(alloc, rules, &called, &asking, is_only)
 }
 
-/// Whether one of several rules is an entry, where these spans are those of entries.
+/// Whether exactly one of several rules is an entry. `entries` has the spans of the entries.
 fn is_only_entry(rules: &[ParserRule<'_>], entries: &[Span<'_>]) -> bool
     ensures { result ≡ (nat_lt 1 (length rules.now) && length entries.now == 1) }
 {
@@ -135,7 +135,8 @@ fn have_same_names(names: &HashSet<&str>, others: &HashSet<&str>) -> bool
     names == others
 }
 
-/// The names of rules that ask for the end of the text, where those of these names are known to.
+/// Returns the names of rules that ask for the end of the text. The rules with the names `known` are known
+/// to.
 fn names_asking<'n, 'i>(
     alloc: Global,
     rules: &'n [ParserRule<'i>],
@@ -168,7 +169,7 @@ fn add_asking<'n, 'i>(
     Ok(())
 }
 
-/// Whether a rule asks for the end of the text, where those of these names are known to.
+/// Whether a rule asks for the end of the text. The rules with the names `known` are known to.
 fn asks_end(alloc: Global, rule: &ParserRule<'_>, known: &HashSet<&str>) -> Result<bool, AllocError>
     ensures { IfOk result (λ answer. (f : Text → Bool) → HasNames f known.now
         → answer ≡ spec.asks_end f (rule_view rule.now)) }
@@ -196,7 +197,8 @@ fn asks_at(node: &ParserNode<'_>, known: &HashSet<&str>) -> bool
     }
 }
 
-/// The spans of the names of rules that no other rule calls, but for those that are skipped between others.
+/// The spans of the names of rules that no other rule calls, except for those that are skipped between
+/// others.
 fn entry_spans<'i>(
     alloc: Global,
     rules: &[ParserRule<'i>],
@@ -241,8 +243,9 @@ fn is_skipped(name: &String) -> bool
     is_blank_name(name.as_str())
 }
 
-/// The spans of the names of starts that never ask for the end, where rules of the names `called` are called,
-/// those of the names `asking` ask for the end, and one rule alone is an entry or not.
+/// Returns the spans of the names of starts that never ask for the end. The rules with the names `called` are
+/// called, and those with the names `asking` ask for the end. `is_only` says whether exactly one rule is an
+/// entry.
 fn open_among<'i>(
     alloc: Global,
     rules: &[ParserRule<'i>],

@@ -1,4 +1,4 @@
-//! Keys of nodes: numbers that are the same just where the expressions are.
+//! Keys of nodes: numbers that are the same if and only if the expressions are.
 ghost use Rattle.std.specs.Prelude.{◌≡◌, ◌++◌, ◌∷◌, [], IfOk, OnOk};
 ghost use Rattle.std.specs.Str.{chars};
 ghost use Rattle.lint_patterns.specs.Keys.{HasKey, int_key, option_key, sign, text_key};
@@ -11,7 +11,7 @@ use std::alloc::{AllocError, Global};
 /// Numbers in a key, at most.
 const LONGEST: usize = 256;
 
-/// The key of a node, where that is short.
+/// The key of a node, if that is short.
 pub(crate) fn key_of(alloc: Global, node: &ParserNode<'_>) -> Result<Option<Vec<u32>>, AllocError>
     ensures { IfOk result (HasKey (without_spans (view node.now))) }
 {

@@ -13,8 +13,7 @@ pub fn passes_are_all()
     ensures { PassesAreAll }
 {}
 
-/// Where `x ~ y` matches and no `x` follows, `(x ~ y)* ~ x` fails and its listing succeeds, over every
-/// grammar.
+/// If `x ~ y` matches and no `x` follows, `(x ~ y)* ~ x` fails and its listing succeeds, over every grammar.
 pub fn rewritten_lists_match_more()
     ensures { RewrittenMatchesMore }
 {}
@@ -31,7 +30,7 @@ pub fn repeated_bodies_run_alike()
     ensures { SameBodiesRunAlike }
 {}
 
-/// Where all counts in a body are written out, the operand of a reported repetition is there at least 10,000
+/// If all counts in a body are written out, the operand of a reported repetition is there at least 10,000
 /// times.
 pub fn many_copies_are_made()
     ensures { ManyAreMade }

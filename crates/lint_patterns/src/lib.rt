@@ -12,6 +12,7 @@ pub mod laws;
 mod lists;
 mod names;
 mod passes;
+mod sizes;
 
 pub use crate::alternatives::repeated_alternatives;
 pub use crate::bodies::{first_bodies, repeated_bodies};

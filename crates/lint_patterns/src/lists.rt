@@ -4,13 +4,14 @@ ghost use Rattle.std.specs.List.{list_any};
 ghost use Rattle.base_ast.specs.Ast.{expression_of, rule_type_of};
 ghost use Rattle.base_language.specs.Language.Text.{Text};
 ghost use Rattle.lint_patterns.specs.Rewritten as spec;
-ghost use Rattle.lint_patterns.specs.Rewritten.{AddsLists, FindsLists};
+ghost use Rattle.lint_patterns.specs.Rewritten.{AddsLists, FindsEach, FindsLists};
 ghost use Rattle.lint_patterns.specs.Stacks.{expressions_left};
 ghost use Rattle.front_spanned.specs.Nodes.{piece_of, rule_view, rule_views};
 ghost use Rattle.lint_warnings.specs.Lists.{HasNames};
 
 use crate::names::{is_among, optional_names};
 use crate::passes::{passed_rule, rotated_rule};
+use crate::sizes::are_large;
 use base_ast::ast::{Expr, Rule, RuleType};
 use base_language::runtime::Span;
 use front_spanned::ParserRule;
@@ -19,13 +20,27 @@ use std::collections::HashSet;
 
 /// The spans of the names of rules in which pest runs a list `(x ~ y)* ~ x` as `x ~ (y ~ x)*`, which matches
 /// where no `x` follows the last `y`, too. Lists with an `x` that cannot fail do not count, and Atomic rules
-/// with a `(!c ~ n)*` are not looked at. The only error is an allocation failure. The time is that of the
-/// optimizer.
+/// with a `(!c ~ n)*` are not looked at. Nor are rules that together have more than 1,000,000 nodes if each
+/// counted repetition is written out. The time is that of the optimizer.
+///
+/// # Errors
+/// `AllocError` if an allocation fails.
 pub fn rewritten_lists<'i>(
     alloc: Global,
     rules: &[ParserRule<'i>],
 ) -> Result<Vec<Span<'i>>, AllocError>
     ensures { IfOk result (λ found. FindsLists (spec.is_optional_name (rule_views rules.now))
+        (rule_views rules.now) (map piece_of found.items)) }
+{
+    if are_large(alloc, rules)? {
+        return Ok(Vec::new(alloc));
+    }
+    find_lists(alloc, rules)
+}
+
+/// The same spans, of rules of any size.
+fn find_lists<'i>(alloc: Global, rules: &[ParserRule<'i>]) -> Result<Vec<Span<'i>>, AllocError>
+    ensures { IfOk result (λ found. FindsEach (spec.is_optional_name (rule_views rules.now))
         (rule_views rules.now) (map piece_of found.items)) }
 {
     let optional = optional_names(alloc, &*rules)?;

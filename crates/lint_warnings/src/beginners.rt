@@ -86,7 +86,7 @@ fn begins(alternative: &ParserNode<'_>, other: &ParserNode<'_>) -> bool {
         || is_same(call(alternative), first_call(other))
 }
 
-/// Whether a text begins another, where both are there.
+/// Whether a text begins another, if both are there.
 fn is_front(front: Option<&str>, text: Option<&str>) -> bool {
     match (front, text) {
         (Some(front), Some(text)) => text.starts_with(front),

@@ -97,7 +97,7 @@ fn add_of_body<'i>(
     Ok(())
 }
 
-/// Adds what there is of the choices that the operands of a node are, where it is no choice itself.
+/// Adds what there is of the choices that the operands of a node are, if it is no choice itself.
 fn add_of_parts<'i>(
     alloc: Global,
     node: &ParserNode<'i>,
@@ -116,7 +116,7 @@ fn add_of_parts<'i>(
     }
 }
 
-/// Adds a choice, where alternatives of it are never taken.
+/// Adds a choice, if alternatives of it are never taken.
 fn add_of_choice<'i>(
     alloc: Global,
     whole: &ParserNode<'i>,
@@ -236,7 +236,7 @@ fn is_called_first(alternative: &ParserNode<'_>, calls: &HashSet<&str>) -> bool
     }
 }
 
-/// Adds the literal that an alternative is, where it is one.
+/// Adds the literal that an alternative is, if it is one.
 fn add_literal<'n, 'i>(
     alternative: &'n ParserNode<'i>,
     literals: &mut Literals<'n>,
@@ -250,7 +250,7 @@ fn add_literal<'n, 'i>(
     }
 }
 
-/// Adds the name that an alternative calls, where it is a call.
+/// Adds the name that an alternative calls, if it is a call.
 fn add_own_call<'n, 'i>(
     alternative: &'n ParserNode<'i>,
     calls: &mut HashSet<&'n str>,

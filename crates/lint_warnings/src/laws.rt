@@ -4,8 +4,9 @@ ghost use Rattle.lint_warnings.specs.SkippingLaws.{AtomicRulesSkipNothing, Skipp
 ghost use Rattle.lint_warnings.specs.SuspectLaws.{IdleOptionChangesNothing, IdleTestNeverFails};
 ghost use Rattle.lint_warnings.specs.SuspectLaws.{ReversedCountIsExact, UnmatchableNeverSucceeds};
 
-/// An alternative that a literal or a call before it begins fails wherever all alternatives before it fail,
-/// over every grammar, and a choice does what it does without such an alternative at its end.
+/// An earlier literal or call matches a prefix of all that an alternative matches. Such an alternative fails
+/// from every start from which all alternatives before it fail, over every grammar. A choice has the same
+/// outcomes without such an alternative at its end.
 pub fn begun_alternatives_are_never_taken()
     ensures never { BegunIsNeverTaken }
     ensures nothing { BegunChangesNothing }
@@ -16,7 +17,7 @@ pub fn reversed_ranges_match_nothing()
     ensures { ReversedFails }
 {}
 
-/// A name that counts as called is called in the body of a rule of another name, and the other way round.
+/// A name counts as called if and only if it is called in the body of a rule with another name.
 pub fn called_rules_are_called()
     ensures { CalledIsCalled }
 {}
@@ -38,8 +39,9 @@ pub fn unmatchable_nodes_match_nothing()
     ensures { UnmatchableNeverSucceeds }
 {}
 
-/// A rule that skips blanks runs in the mode that skips them; there each turn of a repetition begins where
-/// the blanks after the turn before it end, and in an atomic rule where that turn ends, over every grammar.
+/// A rule that skips blanks runs in the mode that skips them. There each iteration of a repetition begins at
+/// the end of the blanks after the iteration before it. In an atomic rule it begins at the end of that
+/// iteration. This is true over every grammar.
 pub fn skipping_rules_skip_blanks()
     ensures modes { SkippingRuleIsNonAtomic }
     ensures turns { TurnsSkipBlanks }

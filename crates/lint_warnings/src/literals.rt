@@ -53,7 +53,7 @@ impl<'n> Literals<'n> {
         false
     }
 
-    /// Whether the first bytes of a text, so many, are one of the texts.
+    /// Whether the first `length` bytes of `text` are one of the texts.
     fn has_front(&self, text: &str, length: usize) -> bool
         ensures front { IsTrue result → IsCharBoundary text.now length }
         ensures found { IsTrue result → IsKnown self.now (take length text.now) ≡ true }
@@ -86,7 +86,7 @@ pub(crate) fn literal<'n, 'i>(node: &'n ParserNode<'i>) -> Option<&'n str>
     }
 }
 
-/// The literal with which all that a node matches begins, where it is one or a sequence that begins so.
+/// The literal with which all that a node matches begins, if it is one or a sequence that begins so.
 pub(crate) fn beginning<'n, 'i>(node: &'n ParserNode<'i>) -> Option<&'n str>
     ensures { option_map (λ text. chars text.now) result
         ≡ beginning_of (without_spans (view node.entry.now)) }
@@ -110,7 +110,7 @@ pub(crate) fn call<'n, 'i>(node: &'n ParserNode<'i>) -> Option<&'n str>
     }
 }
 
-/// The name that a node calls first, where it is a call or a sequence that begins so.
+/// The name that a node calls first, if it is a call or a sequence that begins so.
 pub(crate) fn first_call<'n, 'i>(node: &'n ParserNode<'i>) -> Option<&'n str>
     ensures { option_map (λ name. chars name.now) result
         ≡ first_call_of (without_spans (view node.entry.now)) }

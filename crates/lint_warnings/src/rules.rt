@@ -17,9 +17,9 @@ use std::alloc::{AllocError, Global};
 use std::collections::HashSet;
 
 /// The spans of the names of rules that are not needed, in order. A rule is needed if a rule of another name
-/// calls it, if it is among `starts`, if it calls `SOI` or `EOI`, or if it is `WHITESPACE` or `COMMENT`.
-/// Where no rule calls `SOI` or `EOI`, the first rule but these two is taken for the start; if it is needed,
-/// the start is unknown, and there are none. The only error is an allocation failure.
+/// calls it, if it is among `starts`, if it calls `SOI` or `EOI`, or if it is `WHITESPACE` or `COMMENT`. If
+/// no rule calls `SOI` or `EOI`, the first rule but these two is taken for the start; if it is needed, the
+/// start is unknown, and there are none. The only error is an allocation failure.
 pub fn uncalled_rules<'n, 'i>(
     alloc: Global,
     rules: &'n [ParserRule<'i>],
@@ -51,8 +51,8 @@ fn has_builtin(needed: &HashSet<&str>, builtin: Builtin) -> bool
     needed.contains(&builtin.name())
 }
 
-/// The index after the first rule that is no `WHITESPACE` or `COMMENT`, or the length where that one is
-/// needed or there is none.
+/// The index after the first rule that is no `WHITESPACE` or `COMMENT`, or the length if that one is needed
+/// or there is none.
 fn first_judged(rules: &[ParserRule<'_>], needed: &HashSet<&str>) -> usize
     ensures within { result ≤ length rules.now }
     ensures rest { (f : Text → Bool) → HasNames f needed.now
@@ -129,7 +129,7 @@ pub fn add_name<'n>(name: &'n str, set: &mut HashSet<&'n str>) -> Result<(), All
     Ok(())
 }
 
-/// Adds the names that a rule calls, but for its own.
+/// Adds the names that a rule calls, except for its own.
 pub(crate) fn add_calls<'n, 'i>(
     alloc: Global,
     rule: &'n ParserRule<'i>,
@@ -147,7 +147,7 @@ pub(crate) fn add_calls<'n, 'i>(
     Ok(())
 }
 
-/// Adds the name that a node calls, where it is a call of another name than this one.
+/// Adds the name that a node calls, if it is a call of another name than this one.
 fn add_call<'n, 'i>(
     own: &String,
     node: &'n ParserNode<'i>,
@@ -165,7 +165,7 @@ fn add_call<'n, 'i>(
     Ok(())
 }
 
-/// Adds the span of a rule's name, where it is not needed.
+/// Adds the span of a rule's name, if it is not needed.
 fn add_where_uncalled<'i>(
     alloc: Global,
     rule: &ParserRule<'i>,
@@ -243,7 +243,7 @@ pub fn is_blank_name(name: &str) -> bool
     is_literal(name, whitespace_name()) || is_literal(name, comment_name())
 }
 
-/// Whether a name is one of these two but for the case of its letters.
+/// Whether a name is one of these two except for the case of its letters.
 pub fn is_blank_name_in_any_case(name: &str) -> bool
     ensures { result ≡ spec.is_blank_name_in_any_case name.now }
 {
@@ -258,7 +258,7 @@ fn is_literal(name: &str, literal: &str) -> bool
     name == literal
 }
 
-/// Whether a name is a literal's text but for the case of its letters.
+/// Whether a name is a literal's text except for the case of its letters.
 fn is_literal_in_any_case(name: &str, literal: &str) -> bool
     ensures { result ≡ str_eq_ignore_ascii_case name.now literal.now }
 {

@@ -18,7 +18,7 @@ use std::collections::HashSet;
 const LONGEST_CHAIN: usize = 32;
 
 /// The names of rules with which matching may start: no other rule calls them, or they call `SOI` or `EOI`.
-/// Where there are none, the name of the first rule.
+/// If there are none, the name of the first rule.
 pub(crate) fn roots_of<'n, 'i>(
     alloc: Global,
     rules: &'n [ParserRule<'i>],
@@ -95,8 +95,8 @@ pub(crate) fn reached_names<'n, 'i>(
     Ok(names)
 }
 
-/// The roots, and the names that are called in rules which skip blanks, where these names are known to be
-/// called so.
+/// Returns the roots, and the names that are called in rules which skip blanks. The names `names` are known
+/// to be called so.
 fn called_names<'n, 'i>(
     alloc: Global,
     rules: &'n [ParserRule<'i>],
@@ -113,7 +113,7 @@ fn called_names<'n, 'i>(
     Ok(called)
 }
 
-/// Adds the names that a rule calls, where blanks are skipped between its parts.
+/// Adds the names that a rule calls, if blanks are skipped between its parts.
 fn add_calls_of<'n, 'i>(
     alloc: Global,
     rule: &'n ParserRule<'i>,
@@ -130,7 +130,7 @@ fn add_calls_of<'n, 'i>(
     Ok(())
 }
 
-/// Whether blanks are skipped between the parts of a rule, where those of these names are called so.
+/// Whether blanks are skipped between the parts of a rule. The rules with the names `names` are called so.
 pub(crate) fn skips(rule: &ParserRule<'_>, names: &HashSet<&str>) -> bool
     ensures { (f : Text → Bool) → HasNames f names.now → result ≡ spec.skips f (rule_view rule.now) }
 {

@@ -21,10 +21,11 @@ use std::collections::HashSet;
 /// Calls in a chain that are followed to a class of characters, at most.
 const LONGEST_CLASS: usize = 8;
 
-/// The spans of repetitions of characters between which blanks are skipped, as `ASCII_DIGIT+` in a rule
-/// without `@` where `WHITESPACE` is defined: it takes `1 2`. They are in the order of the text, the first of
-/// each rule. Only rules to which a chain of at most 32 calls leads from a start are looked at, and none that
-/// `!` marks. The only error is an allocation failure. The time is linear in the rules.
+/// Returns the spans of repetitions of characters between which blanks are skipped. An example is
+/// `ASCII_DIGIT+` in a rule without `@`, if `WHITESPACE` is defined: it matches `1 2`. The spans are in text
+/// order, and only the first one of each rule is returned. A rule is considered if a chain of at most 32
+/// calls leads to it from a start, and if its type is not `!`. The only error is an allocation failure. The
+/// time is linear in the number of nodes of the rules.
 pub fn blanks_in_tokens<'i>(
     alloc: Global,
     rules: &[ParserRule<'i>],
@@ -67,7 +68,7 @@ fn class_rules<'n, 'i>(
     Ok(names)
 }
 
-/// The names of rules that are classes of characters, where those of these names are known to be.
+/// Returns the names of rules that are classes of characters. Those with the names `names` are known to be.
 fn class_names<'n, 'i>(
     alloc: Global,
     rules: &'n [ParserRule<'i>],
@@ -100,8 +101,8 @@ fn add_class<'n, 'i>(
     Ok(())
 }
 
-/// The spans of repetitions of classes in rules that skip blanks, where rules of the names `called` are
-/// called so.
+/// Returns the spans of repetitions of classes in rules that skip blanks. The rules with the names `called`
+/// are called so.
 fn loose_among<'i>(
     alloc: Global,
     rules: &[ParserRule<'i>],
@@ -118,7 +119,7 @@ fn loose_among<'i>(
     Ok(found)
 }
 
-/// Adds the span of the first repetition of a class in a rule, where it skips blanks and is not marked so.
+/// Adds the span of the first repetition of a class in a rule, if it skips blanks and is not marked so.
 fn add_of_rule<'i>(
     alloc: Global,
     rule: &ParserRule<'i>,
@@ -217,7 +218,7 @@ fn repeats_class(
     }
 }
 
-/// The operand that a node repeats, where it may be more than once.
+/// The operand that a node repeats, if it may be more than once.
 fn repeated_operand<'n, 'i>(node: &'n ParserNode<'i>) -> Option<&'n ParserNode<'i>>
     ensures { option_map (λ inner. view inner.now) result ≡ spec.repeated_operand (view node.entry.now) }
 {

@@ -63,10 +63,10 @@ module _ (p : Program) (rule : ℕ) (row : Row) (within : rule < length p.rows.i
       (subst (λ b. IsPoint laid (Run inner b) first last 0) body_said x)
 
   -- the same of a part
-  pub body_part : IsSoundProgram p → (laid : List lay.Point) (m inner : Mode) (rank first last way : ℕ)
-      → inner ≡ mode_in (rule_type_of row.kind) row.blank m → IsPart laid rank (Run inner (body_in p rule)) first last way
-      → IsPart laid rank (Run (body_mode (made p rule row within is) m) (made p rule row within is).body) first last way
-  body_part sound laid m inner rank first last way e x =
+  pub body_part : IsSoundProgram p → (laid : List lay.Point) (m inner : Mode) (rank first last on_fail : ℕ)
+      → inner ≡ mode_in (rule_type_of row.kind) row.blank m → IsPart laid rank (Run inner (body_in p rule)) first last on_fail
+      → IsPart laid rank (Run (body_mode (made p rule row within is) m) (made p rule row within is).body) first last on_fail
+  body_part sound laid m inner rank first last on_fail e x =
       let r = made p rule row within is in
-      subst (λ k. IsPart laid rank (Run k r.body) first last way) (in_mode p rule row within is sound m inner e)
-      (subst (λ b. IsPart laid rank (Run inner b) first last way) body_said x)
+      subst (λ k. IsPart laid rank (Run k r.body) first last on_fail) (in_mode p rule row within is sound m inner e)
+      (subst (λ b. IsPart laid rank (Run inner b) first last on_fail) body_said x)

@@ -45,10 +45,10 @@ excluded code set b e (a ∷ bs) h =
 pub plain_label : (code : CodeLists) (x : Branch) (b t : ℕ) → x.noted ≡ false → flag code x.set b ≡ 0
     → Skips code (Some b) x.second t → ContinuesAs code x (Some b) t
 plain_label code x b t plain none leads =
-    inr (excluded code x.set b none, subst (λ n. Leads code (Some b) n x.second x.next x.way t) (sym plain) leads)
+    inr (excluded code x.set b none, subst (λ n. Leads code (Some b) n x.second x.next x.on_fail t) (sym plain) leads)
 
 -- a label where a failure is recorded, and to which the second alternative leads
 pub noted_label : (code : CodeLists) (x : Branch) (b t : ℕ) → x.noted ≡ true → flag code x.set b ≡ 0
-    → Notes code (Some b) x.second x.next x.way t → ContinuesAs code x (Some b) t
+    → Notes code (Some b) x.second x.next x.on_fail t → ContinuesAs code x (Some b) t
 noted_label code x b t noted none leads =
-    inr (excluded code x.set b none, subst (λ n. Leads code (Some b) n x.second x.next x.way t) (sym noted) leads)
+    inr (excluded code x.set b none, subst (λ n. Leads code (Some b) n x.second x.next x.on_fail t) (sym noted) leads)

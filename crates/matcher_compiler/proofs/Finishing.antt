@@ -53,15 +53,15 @@ meets_plan p plan code ends met sets texts lists = record {
 }
 
 abbrev some_point : Point
-some_point = record { part = part.Gap; at = record { mode = mode.Atomic; label = 0; next = 0; way = 0; rank = 0; around = 0 } }
+some_point = record { part = part.Gap; at = record { mode = mode.Atomic; label = 0; next = 0; on_fail = 0; rank = 0; around = 0 } }
 
 -- the same point
 laid_as : (exact : Bool) (p : Program) (classes : Classes) (code : CodeLists) (laid : List lay.Point) (x : Point) (k : Task) (l n w rank : ℕ)
-    → laid_point p x ≡ record { task = k; label = l; next = n; way = w; rank = rank }
-    → Lays exact (grammar_in p) classes code (number_in (grammar_in p)) laid x.at.rank (task_in p x.part (mode_of x.at.mode)) x.at.label x.at.next x.at.way
+    → laid_point p x ≡ record { task = k; label = l; next = n; on_fail = w; rank = rank }
+    → Lays exact (grammar_in p) classes code (number_in (grammar_in p)) laid x.at.rank (task_in p x.part (mode_of x.at.mode)) x.at.label x.at.next x.at.on_fail
     → Lays exact (grammar_in p) classes code (number_in (grammar_in p)) laid rank k l n w
 laid_as exact p classes code laid x k l n w rank e y =
-    let P : lay.Point → Type 0 = λ q. Lays exact (grammar_in p) classes code (number_in (grammar_in p)) laid q.rank q.task q.label q.next q.way in
+    let P : lay.Point → Type 0 = λ q. Lays exact (grammar_in p) classes code (number_in (grammar_in p)) laid q.rank q.task q.label q.next q.on_fail in
     subst P e y
 
 pub code_of : (p : Program) (plan : Plan) (code : CodeLists) → HasEnds code → Meets p plan code (map (laid_point p) plan.points.items)
@@ -118,31 +118,31 @@ laid_more p old new n x later within is lays one i d h k = elim (cases_lt i n) [
 ]
 
 pub body_made : (p : Program) (points : List Point) (i : ℕ) (x : Point) {k rule : ℕ} {m : Atomicity} {first last : ℕ} → i < length points
-    → x ≡ get_or points i x → x.part ≡ part.Body k → k ≡ rule → x.at.mode ≡ m → x.at.label ≡ first → x.at.next ≡ last → x.at.way ≡ 0
+    → x ≡ get_or points i x → x.part ≡ part.Body k → k ≡ rule → x.at.mode ≡ m → x.at.label ≡ first → x.at.next ≡ last → x.at.on_fail ≡ 0
     → IsPoint (map (laid_point p) points) (Run (mode_of m) (body_in p rule)) first last 0
 body_made p points i x {k} {rule} {m} {first} {last} h is part_is rule_is mode_is first_is last_is way_is =
     let laid = map (laid_point p) points in
     let y = point_made p points i x h in
     let P : Point → Type 0 = λ z. IsPointOf p laid z in
-    let a : IsPoint laid (task_in p x.part (mode_of x.at.mode)) x.at.label x.at.next x.at.way = (subst P (sym is) y).point in
-    let b = subst (λ q. IsPoint laid (task_in p q (mode_of x.at.mode)) x.at.label x.at.next x.at.way) part_is a in
-    let d = subst (λ r. IsPoint laid (Run (mode_of x.at.mode) (body_in p r)) x.at.label x.at.next x.at.way) rule_is b in
-    let e = subst (λ r. IsPoint laid (Run (mode_of r) (body_in p rule)) x.at.label x.at.next x.at.way) mode_is d in
-    let f = subst (λ n. IsPoint laid (Run (mode_of m) (body_in p rule)) n x.at.next x.at.way) first_is e in
-    let g = subst (λ n. IsPoint laid (Run (mode_of m) (body_in p rule)) first n x.at.way) last_is f in
+    let a : IsPoint laid (task_in p x.part (mode_of x.at.mode)) x.at.label x.at.next x.at.on_fail = (subst P (sym is) y).point in
+    let b = subst (λ q. IsPoint laid (task_in p q (mode_of x.at.mode)) x.at.label x.at.next x.at.on_fail) part_is a in
+    let d = subst (λ r. IsPoint laid (Run (mode_of x.at.mode) (body_in p r)) x.at.label x.at.next x.at.on_fail) rule_is b in
+    let e = subst (λ r. IsPoint laid (Run (mode_of r) (body_in p rule)) x.at.label x.at.next x.at.on_fail) mode_is d in
+    let f = subst (λ n. IsPoint laid (Run (mode_of m) (body_in p rule)) n x.at.next x.at.on_fail) first_is e in
+    let g = subst (λ n. IsPoint laid (Run (mode_of m) (body_in p rule)) first n x.at.on_fail) last_is f in
     subst (λ n. IsPoint laid (Run (mode_of m) (body_in p rule)) first last n) way_is g
 
 pub skipping_made : (p : Program) (points : List Point) (i : ℕ) (x : Point) {first last : ℕ} → i < length points
-    → x ≡ get_or points i x → x.part ≡ part.Skipped → x.at.label ≡ first → x.at.next ≡ last → x.at.way ≡ 0
+    → x ≡ get_or points i x → x.part ≡ part.Skipped → x.at.label ≡ first → x.at.next ≡ last → x.at.on_fail ≡ 0
     → IsPoint (map (laid_point p) points) (Run Between skipped) first last 0
 skipping_made p points i x {first} {last} h is part_is first_is last_is way_is =
     let laid = map (laid_point p) points in
     let y = point_made p points i x h in
     let P : Point → Type 0 = λ z. IsPointOf p laid z in
-    let a : IsPoint laid (task_in p x.part (mode_of x.at.mode)) x.at.label x.at.next x.at.way = (subst P (sym is) y).point in
-    let b = subst (λ q. IsPoint laid (task_in p q (mode_of x.at.mode)) x.at.label x.at.next x.at.way) part_is a in
-    let f = subst (λ n. IsPoint laid (Run Between skipped) n x.at.next x.at.way) first_is b in
-    let g = subst (λ n. IsPoint laid (Run Between skipped) first n x.at.way) last_is f in
+    let a : IsPoint laid (task_in p x.part (mode_of x.at.mode)) x.at.label x.at.next x.at.on_fail = (subst P (sym is) y).point in
+    let b = subst (λ q. IsPoint laid (task_in p q (mode_of x.at.mode)) x.at.label x.at.next x.at.on_fail) part_is a in
+    let f = subst (λ n. IsPoint laid (Run Between skipped) n x.at.next x.at.on_fail) first_is b in
+    let g = subst (λ n. IsPoint laid (Run Between skipped) first n x.at.on_fail) last_is f in
     subst (λ n. IsPoint laid (Run Between skipped) first last n) way_is g
 
 same_demand : (xs : List Demand) (j : ℕ) (a b : Demand) → j < length xs → get_or xs j a ≡ get_or xs j b

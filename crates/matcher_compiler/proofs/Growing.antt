@@ -33,7 +33,7 @@ part_as laid {rank = rank} {l = l} {n = n} {w = w} e x = subst (λ t. IsPart lai
 
 -- a point of the rank before
 pub part_below : (p : Program) (laid : List lay.Point) (x : Point) (rank : ℕ) → IsPointOf p laid x → suc x.at.rank ≡ rank
-    → IsPart laid rank (task_in p x.part (mode_of x.at.mode)) x.at.label x.at.next x.at.way
+    → IsPart laid rank (task_in p x.part (mode_of x.at.mode)) x.at.label x.at.next x.at.on_fail
 part_below p laid x rank h e = record { point = h.point; lower = omega (arith, h.lower, e) }
 
 front : {A : Type 0} (xs ys zs : List A) (i : ℕ) (d : A) → zs ≡ xs ++ ys → i < length xs → (i < length zs) × (get_or zs i d ≡ get_or xs i d)

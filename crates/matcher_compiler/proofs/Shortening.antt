@@ -14,11 +14,11 @@ use Rattle.matcher_code.specs.Laid.{Hits, IsSilent, Misses}
 use Rattle.matcher_code.proofs.Characters.{not_and_then}
 use Rattle.matcher_program.specs.declared.form.Form.{Form}
 use Rattle.matcher_program.specs.declared.form.Program.{Program}
-use Rattle.matcher_sets.specs.declared.heads.Head.{Head}
+use Rattle.matcher_sets.specs.declared.first_sets.FirstSet.{FirstSet}
 use Rattle.matcher_sets.specs.declared.modes.Atomicity.{Atomicity}
 use Rattle.matcher_sets.specs.Differences.{HasRanges}
 use Rattle.matcher_sets.specs.Forms.{grammar_in, said}
-use Rattle.matcher_sets.specs.Heads.{HasHead}
+use Rattle.matcher_sets.specs.FirstSets.{HasFirstSet}
 use Rattle.matcher_sets.specs.Modes.{mode_of}
 use Rattle.matcher_sets.specs.Ranges.{Covers}
 use Rattle.matcher_sets.proofs.Heading.{fails_outside}
@@ -36,9 +36,9 @@ second false b e = e
 misses_of : (ranges : List (ℕ × ℕ)) (c : ℕ) (cs u : Text) → u ≡ c ∷ cs → c < 1114112 → is_covered ranges c ≡ false → Misses ranges u
 misses_of ranges c cs u e l k = subst (Misses ranges) (sym e) (l, k)
 
--- a form fails before a character that its head does not have
-pub fails_before : (p : Program) (m : Atomicity) (form : Form) (h : Head) (ranges rest : List (ℕ × ℕ))
-    → HasHead p (mode_of m) (said p form) h → h.empty ≡ false → h.noted ≡ false
+-- a form fails before a character that its FIRST set does not have
+pub fails_before : (p : Program) (m : Atomicity) (form : Form) (h : FirstSet) (ranges rest : List (ℕ × ℕ))
+    → HasFirstSet p (mode_of m) (said p form) h → h.empty ≡ false → h.noted ≡ false
     → Covers rest (λ c. not (is_covered h.ranges.items c) && is_covered ranges c)
     → FailsBefore p (Run (mode_of m) (said p form)) ranges rest
 fails_before p m form h ranges rest has q n covers classes fits s hit = go s.rest refl hit

@@ -20,7 +20,7 @@ use Rattle.matcher_program.specs.Programs.{IsRuleOf, IsSkippedRule, name_at, nam
 use Rattle.matcher_sets.specs.declared.modes.Atomicity as code
 use Rattle.matcher_compiler.specs.declared.plan.Skips.TheVariants as skips
 use Rattle.matcher_sets.specs.declared.modes.Atomicity.TheVariants as mode
-use Rattle.matcher_sets.specs.declared.heads.Head.{Head}
+use Rattle.matcher_sets.specs.declared.first_sets.FirstSet.{FirstSet}
 use Rattle.matcher_sets.specs.Modes.{mode_of}
 use Rattle.matcher_sets.specs.Differences.{BeginsWith}
 use Rattle.matcher_sets.specs.Forms.{IsSoundProgram, grammar_in, no_rule, said}
@@ -146,7 +146,7 @@ both_on_some (Ok None) f p q = tt
 both_on_some (Err e) f p q = tt
 
 -- where a comment cannot begin, there is none with blanks behind it
-pub comment_fails : (p : Program) (h : Head) → FailsWithout p (Run Between (Ident comment)) h → FailsWithout p (Run Between one_comment) h
+pub comment_fails : (p : Program) (h : FirstSet) → FailsWithout p (Run Between (Ident comment)) h → FailsWithout p (Run Between one_comment) h
 comment_fails p h fails classes fits s miss = let y = fails classes fits s miss in (by.seq_first y.0, y.1, y.2)
 
 -- the rules `COMMENT` and `WHITESPACE` of a program

@@ -18,7 +18,7 @@ use Rattle.matcher_code.specs.Laid.{Branches, Continues, Enters, FailsOutside, H
 use Rattle.matcher_compiler.specs.declared.plan.Plan.{Plan}
 use Rattle.matcher_compiler.specs.declared.plan.Skips.{Skips}
 use Rattle.matcher_compiler.specs.declared.plan.Skips.TheVariants as skips
-use Rattle.matcher_sets.specs.declared.heads.Head.{Head}
+use Rattle.matcher_sets.specs.declared.first_sets.FirstSet.{FirstSet}
 use Rattle.matcher_sets.specs.declared.modes.Atomicity.{Atomicity}
 use Rattle.matcher_compiler.specs.declared.points.Branch.{Branch}
 use Rattle.matcher_compiler.specs.declared.points.Demand.{Demand}
@@ -75,14 +75,14 @@ laid_point p x = record {
   task = task_in p x.part (mode_of x.at.mode);
   label = x.at.label;
   next = x.at.next;
-  way = x.at.way;
+  on_fail = x.at.on_fail;
   rank = x.at.rank;
 }
 
 -- a point, of the same rank or a lower one
 abbrev pub IsPointOf : Program → List lay.Point → Point → Type 0
 IsPointOf p laid x =
-    IsPart laid (suc x.at.rank) (task_in p x.part (mode_of x.at.mode)) x.at.label x.at.next x.at.way
+    IsPart laid (suc x.at.rank) (task_in p x.part (mode_of x.at.mode)) x.at.label x.at.next x.at.on_fail
 
 -- nothing is skipped in the mode
 abbrev pub IsTightIn : Program → Atomicity → Type 0
@@ -90,16 +90,16 @@ IsTightIn p m = (classes : Classes) → IsTight (grammar_in p) classes (mode_of 
 
 -- a choice goes on at a label for a first byte; its table has such labels
 abbrev pub ContinuesAs : CodeLists → Branch → Option ℕ → ℕ → Type 0
-ContinuesAs code b head t = Continues code head b.set b.noted b.first b.second b.next b.way t
+ContinuesAs code b first_set t = Continues code first_set b.set b.noted b.first b.second b.next b.on_fail t
 
 -- where the second alternative of a choice leads on to a label, if to one, its table may have another label,
 -- before which a failure is recorded
 abbrev pub IsNoted : CodeLists → Branch → Option ℕ → ℕ → Type 0
-IsNoted code b next t = (head : Option ℕ) → IfSome next (Moves code head b.second)
-    → Notes code head b.second b.next b.way t
+IsNoted code b next t = (first_set : Option ℕ) → IfSome next (Moves code first_set b.second)
+    → Notes code first_set b.second b.next b.on_fail t
 
 abbrev pub HasBranch : CodeLists → Branch → Type 0
-HasBranch code b = Branches code b.table b.set b.noted b.first b.second b.next b.way
+HasBranch code b = Branches code b.table b.set b.noted b.first b.second b.next b.on_fail
 
 -- the program has what is demanded
 abbrev pub IsMet : Program → CodeLists → List lay.Point → Demand → Type 0
@@ -183,21 +183,21 @@ abbrev pub LaysAt : Program → Plan → Task → Place → Type 0
 LaysAt p plan k at = (classes : Classes) → Fits p.properties.items classes
     → (code : CodeLists) (laid : List lay.Point) → Meets p plan code laid
     → Lays (is_exact code) (grammar_in p) classes code (number_in (grammar_in p)) laid at.rank k
-    at.label at.next at.way
+    at.label at.next at.on_fail
 
 -- so it goes on from the place to the task at a label
 abbrev pub EntersAt : Program → Plan → Task → Place → ℕ → Type 0
 EntersAt p plan k at first = (classes : Classes) → Fits p.properties.items classes
     → (code : CodeLists) (laid : List lay.Point) → Meets p plan code laid
-    → Enters (is_exact code) (grammar_in p) classes code k at.label first at.way
+    → Enters (is_exact code) (grammar_in p) classes code k at.label first at.on_fail
 
--- where no character of a head is next, the task fails, and records a failure there or none
-abbrev pub FailsWithout : Program → Task → Head → Type 0
+-- where no character of a FIRST set is next, the task fails, and records a failure there or none
+abbrev pub FailsWithout : Program → Task → FirstSet → Type 0
 FailsWithout p k h = (classes : Classes) → Fits p.properties.items classes
     → FailsOutside (grammar_in p) classes k h.ranges.items h.noted
 
 -- so the task takes nothing then, and does not fail
-abbrev pub TakesNoneIn : Program → Task → Head → Type 0
+abbrev pub TakesNoneIn : Program → Task → FirstSet → Type 0
 TakesNoneIn p k h = (classes : Classes) → Fits p.properties.items classes
     → TakesNone (grammar_in p) classes k h.ranges.items h.noted
 
@@ -205,7 +205,7 @@ TakesNoneIn p k h = (classes : Classes) → Fits p.properties.items classes
 abbrev pub BranchesAt : Program → Plan → Task → Place → (first second : ℕ) → Type 0
 BranchesAt p plan k at first second = (classes : Classes) → Fits p.properties.items classes
     → (code : CodeLists) (laid : List lay.Point) → Meets p plan code laid
-    → HasTable (is_exact code) (grammar_in p) classes code k at.label first second at.next at.way
+    → HasTable (is_exact code) (grammar_in p) classes code k at.label first second at.next at.on_fail
 
 -- where a character of the ranges is next, the task takes it alone, and records no failure
 abbrev pub TakesOneIn : Program → Task → List (ℕ × ℕ) → Type 0
@@ -222,8 +222,8 @@ FailsBefore p k ranges rest = (classes : Classes) → Fits p.properties.items cl
 pub record IsEntered (g : Grammar) (classes : Classes) (code : CodeLists) (laid : List lay.Point) (k : Task)
     (at : Place) : Type 0 where
   pub first : ℕ
-  pub entered : Enters (is_exact code) g classes code k at.label first at.way
-  pub point : IsPart laid at.rank k first at.next at.way
+  pub entered : Enters (is_exact code) g classes code k at.label first at.on_fail
+  pub point : IsPart laid at.rank k first at.next at.on_fail
 
 abbrev pub BeginsAt : Program → Plan → Task → Place → Type 0
 BeginsAt p plan k at = (classes : Classes) → Fits p.properties.items classes
@@ -253,4 +253,4 @@ HasTurns p plan e at start = (classes : Classes) (code : CodeLists) (laid : List
     → Meets p plan code laid
     → Enters (is_exact code) (grammar_in p) classes code (Run (mode_of at.mode) e) at.label start at.next
     → Lays (is_exact code) (grammar_in p) classes code (number_in (grammar_in p)) laid at.rank
-    (Run (mode_of at.mode) (Rep e)) at.label at.next at.way
+    (Run (mode_of at.mode) (Rep e)) at.label at.next at.on_fail

@@ -95,14 +95,14 @@ impl<'p> Plan<'p> {
     }
 
     /// Plans the body of a rule in a mode, once for each mode and each use of it, and returns the labels
-    /// where it begins and where it goes on: `own` and the next one, which are free, if it is new.
+    /// where it begins and where it goes on: `fresh` and the next one, which are free, if it is new.
     fn body(
         &mut self,
         program: &Program,
         rule: usize,
         mode: Atomicity,
         gives: bool,
-        own: u32,
+        fresh: u32,
     ) -> Result<(u32, u32), NotCompiled>
         requires within { rule < length program.now.rows.items }
         ensures later { OnOk result (IsLater program.now self.old self.new) }
@@ -113,9 +113,9 @@ impl<'p> Plan<'p> {
         let number = body_number(rule, mode, gives);
         let place = Place {
             mode,
-            label: own,
-            next: own.saturating_add(1),
-            way: FAIL,
+            label: fresh,
+            next: fresh.saturating_add(1),
+            on_fail: FAIL,
             rank: TOP_RANK,
             around: NO_CALL,
         };
@@ -131,14 +131,14 @@ impl<'p> Plan<'p> {
         Ok((first, last))
     }
 
-    /// Plans a call that gives a token. The labels from `own` on are free.
+    /// Plans a call that gives a token. The labels from `fresh` on are free.
     fn token_call(
         &mut self,
         program: &Program,
         rule: usize,
         row: &Row,
         at: Place,
-        own: u32,
+        fresh: u32,
     ) -> Result<(), NotCompiled>
         requires sound { IsSoundProgram program.now }
         requires last { IsLast program.now.rows.items rule }
@@ -154,7 +154,7 @@ impl<'p> Plan<'p> {
     {
         let inner = body_mode(row.kind, row.blank, at.mode);
         let counts = is_seen_from(at.mode);
-        let (to, last) = self.body(program, rule, inner, true, own)?;
+        let (to, last) = self.body(program, rule, inner, true, fresh)?;
         self.operation(last, Op::Return)?;
         self.operation(
             at.label,
@@ -162,7 +162,7 @@ impl<'p> Plan<'p> {
                 to,
                 row: rule as u32,
                 next: at.next,
-                fail: at.way,
+                fail: at.on_fail,
                 counts,
             },
         )?;
@@ -170,8 +170,8 @@ impl<'p> Plan<'p> {
     }
 
     /// Plans the implicit skipping as an expression, once for all calls of it, and returns the labels where
-    /// it begins and where it goes on: `own` and the next one, which are free, if it is new.
-    fn skipping(&mut self, program: &Program, own: u32) -> Result<(u32, u32), NotCompiled>
+    /// it begins and where it goes on: `fresh` and the next one, which are free, if it is new.
+    fn skipping(&mut self, program: &Program, fresh: u32) -> Result<(u32, u32), NotCompiled>
         ensures later { OnOk result (IsLater program.now self.old self.new) }
         ensures has { IfOk result (λ labels. (code : CodeLists) (laid : List lay.Point)
             → Meets program.now self.new code laid
@@ -180,9 +180,9 @@ impl<'p> Plan<'p> {
         let number = program.rows.len().saturating_mul(BODIES);
         let place = Place {
             mode: Atomicity::NonAtomic,
-            label: own,
-            next: own.saturating_add(1),
-            way: FAIL,
+            label: fresh,
+            next: fresh.saturating_add(1),
+            on_fail: FAIL,
             rank: TOP_RANK,
             around: NO_CALL,
         };
@@ -192,38 +192,38 @@ impl<'p> Plan<'p> {
         Ok((first, last))
     }
 
-    /// Plans the implicit skipping by a call. The labels from `own` on are free.
+    /// Plans the implicit skipping by a call. The labels from `fresh` on are free.
     pub(crate) fn skip_call(
         &mut self,
         program: &Program,
         at: Place,
-        own: u32,
+        fresh: u32,
     ) -> Result<(), NotCompiled>
         requires mode { mode_of at.mode ≡ NonAtomicMode }
         ensures later { OnOk result (IsLater program.now self.old self.new) }
         ensures lays { OnOk result (LaysAt program.now self.new (Skipping (mode_of at.mode)) at) }
     {
-        let (to, last) = self.skipping(program, own)?;
+        let (to, last) = self.skipping(program, fresh)?;
         self.operation(last, Op::Back)?;
         self.operation(
             at.label,
             Op::Sub {
                 to,
                 next: at.next,
-                fail: at.way,
+                fail: at.on_fail,
             },
         )?;
         Ok(())
     }
 
-    /// Plans a call that gives no token. The labels from `own` on are free.
+    /// Plans a call that gives no token. The labels from `fresh` on are free.
     fn silent_call(
         &mut self,
         program: &Program,
         rule: usize,
         row: &Row,
         at: Place,
-        own: u32,
+        fresh: u32,
     ) -> Result<(), NotCompiled>
         requires sound { IsSoundProgram program.now }
         requires within { rule < length program.now.rows.items }
@@ -236,14 +236,14 @@ impl<'p> Plan<'p> {
             (Run (mode_of at.mode) (Ident (name_at (names_of program.now.rows.items) rule))) at) }
     {
         let inner = body_mode(row.kind, row.blank, at.mode);
-        let (to, last) = self.body(program, rule, inner, false, own)?;
+        let (to, last) = self.body(program, rule, inner, false, fresh)?;
         self.operation(last, Op::Back)?;
         self.operation(
             at.label,
             Op::Sub {
                 to,
                 next: at.next,
-                fail: at.way,
+                fail: at.on_fail,
             },
         )?;
         Ok(())
@@ -316,14 +316,14 @@ impl<'p> Plan<'p> {
         Ok(())
     }
 
-    /// Plans a call that gives no token, in place if that may be. The labels from `own` on are free.
+    /// Plans a call that gives no token, in place if that may be. The labels from `fresh` on are free.
     fn quiet_call(
         &mut self,
         program: &Program,
         rule: usize,
         row: &Row,
         at: Place,
-        own: u32,
+        fresh: u32,
     ) -> Result<(), NotCompiled>
         requires sound { IsSoundProgram program.now }
         requires within { rule < length program.now.rows.items }
@@ -338,17 +338,17 @@ impl<'p> Plan<'p> {
         if self.is_placed(row, rule, at) {
             self.placed_call(program, rule, row, at)
         } else {
-            self.silent_call(program, rule, row, at, own)
+            self.silent_call(program, rule, row, at, fresh)
         }
     }
 
-    /// Plans a call of a rule that is the last one of its name. The labels from `own` on are free.
+    /// Plans a call of a rule that is the last one of its name. The labels from `fresh` on are free.
     fn last_call(
         &mut self,
         program: &Program,
         rule: usize,
         at: Place,
-        own: u32,
+        fresh: u32,
     ) -> Result<(), NotCompiled>
         requires sound { IsSoundProgram program.now }
         requires last { IsLast program.now.rows.items rule }
@@ -360,21 +360,21 @@ impl<'p> Plan<'p> {
     {
         let row = &program.rows[rule];
         if gives_token(row.kind, at.mode) {
-            self.token_call(program, rule, row, at, own)
+            self.token_call(program, rule, row, at, fresh)
         } else {
-            self.quiet_call(program, rule, row, at, own)
+            self.quiet_call(program, rule, row, at, fresh)
         }
     }
 
-    /// Plans a call of the last rule of a name, which is that of the rule of a number. The labels from `own`
-    /// on are free.
+    /// Plans a call of the last rule of a name, which is that of the rule of a number. The labels from
+    /// `fresh` on are free.
     pub(crate) fn call(
         &mut self,
         program: &Program,
         lasts: &[usize],
         rule: usize,
         at: Place,
-        own: u32,
+        fresh: u32,
     ) -> Result<(), NotCompiled>
         requires sound { IsSoundProgram program.now }
         requires lasts { AreLast program.now.rows.items lasts.now }
@@ -384,6 +384,6 @@ impl<'p> Plan<'p> {
         ensures lays { OnOk result (LaysAt program.now self.new
             (Run (mode_of at.mode) (Ident (name_at (names_of program.now.rows.items) rule))) at) }
     {
-        self.last_call(program, lasts[rule], at, own)
+        self.last_call(program, lasts[rule], at, fresh)
     }
 }

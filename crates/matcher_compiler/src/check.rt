@@ -362,7 +362,7 @@ fn has_body(
     if point.at.next != last {
         return false;
     }
-    if point.at.way != 0 {
+    if point.at.on_fail != 0 {
         return false;
     }
     true
@@ -387,7 +387,7 @@ fn has_skipping(points: &[Point<'_>], number: usize, first: u32, last: u32) -> b
     if point.at.next != last {
         return false;
     }
-    if point.at.way != 0 {
+    if point.at.on_fail != 0 {
         return false;
     }
     true

@@ -24,16 +24,17 @@ fn labels_of(code: &Code, table: u32) -> Option<&[u32]>
 
 /// Returns whether the table of a choice has the label for a first byte, or for the end. The operations are
 /// those at which the alternatives begin.
-fn has_label(code: &Code, branch: Branch, first: Op, second: Op, head: Option<u8>) -> bool
+fn has_label(code: &Code, branch: Branch, first: Op, second: Op, first_set: Option<u8>) -> bool
     ensures { at_label (lists_of code.now) branch.first ≡ first
         → at_label (lists_of code.now) branch.second ≡ second
         → result ≡ true
-        → ContinuesAs (lists_of code.now) branch head (label_for (lists_of code.now) branch.table head) }
+        → ContinuesAs (lists_of code.now) branch first_set (label_for
+        (lists_of code.now) branch.table first_set) }
 {
-    let flag = flag_at(code, branch.set, head);
-    let to = label_for(code, branch.table, head);
-    let next = next_label(code, branch.second, second, head);
-    check_label(code, branch, first, head, flag, to, next)
+    let flag = flag_at(code, branch.set, first_set);
+    let to = label_for(code, branch.table, first_set);
+    let next = next_label(code, branch.second, second, first_set);
+    check_label(code, branch, first, first_set, flag, to, next)
 }
 
 /// Returns whether a table has one label for all first bytes above ASCII.
@@ -63,8 +64,8 @@ struct Columns<'a> {
 /// Returns whether a failure of the first alternative of a choice is recorded at a label, where the second
 /// one leads on to another, or begins there.
 fn is_noted_from(code: &Code, branch: Branch, next: u32, to: u32) -> bool
-    ensures { result ≡ true → (head : Option ℕ) → Skips (lists_of code.now) head branch.second next
-        → Notes (lists_of code.now) head branch.second branch.next branch.way to }
+    ensures { result ≡ true → (first_set : Option ℕ) → Skips (lists_of code.now) first_set branch.second next
+        → Notes (lists_of code.now) first_set branch.second branch.next branch.on_fail to }
 {
     if next == branch.second {
         is_noted(code, branch, Lead { next: None, to })

@@ -27,7 +27,7 @@ use matcher_code::ranges::Ranges;
 use matcher_code::sets::add_set;
 use matcher_program::form::{Form, Program, Row};
 use matcher_sets::difference::first_ranges;
-use matcher_sets::learning::rule_heads;
+use matcher_sets::learning::rule_first_sets;
 use matcher_sets::modes::Atomicity;
 use matcher_sets::sizes::body_sizes;
 use std::alloc::Global;
@@ -258,7 +258,7 @@ fn plan_entries(program: &Program, plan: &mut Plan<'_>) -> Result<(), NotCompile
             mode: Atomicity::NonAtomic,
             label: rule as u32 + 3,
             next: 1,
-            way: 2,
+            on_fail: 2,
             rank: TOP_RANK,
             around: NO_CALL,
         };
@@ -394,8 +394,8 @@ fn compile_with(alloc: Global, program: &Program, calls_all: bool) -> Result<Cod
     let mut plan = first_plan(alloc, program)?;
     plan_ends(&mut plan)?;
     plan_entries(program, &mut plan)?;
-    let heads = rule_heads(alloc, program, calls_all)?;
-    plan.plan(alloc, program, &heads, &lasts)?;
+    let first_sets = rule_first_sets(alloc, program, calls_all)?;
+    plan.plan(alloc, program, &first_sets, &lasts)?;
     let code = finish(alloc, plan)?;
     if is_fitting(alloc, program, &code)? {
         Ok(code)

@@ -6,7 +6,7 @@ ghost use Rattle.base_language.specs.Language.State.{NonAtomicMode};
 ghost use Rattle.matcher_code.specs.declared.code.Op.TheVariants as op;
 ghost use Rattle.matcher_sets.specs.Modes.{mode_of};
 ghost use Rattle.matcher_sets.specs.Forms.{IsBoundIn, IsSoundProgram, said};
-ghost use Rattle.matcher_sets.specs.Heads.{AreHeads};
+ghost use Rattle.matcher_sets.specs.FirstSets.{AreFirstSets};
 ghost use Rattle.matcher_compiler.specs.Plans.{BeginsAt, HasParts, HasTurns, IsBoundPart, IsLater, IsReady, IsTightIn, LaysAt, task_in};
 
 use crate::forms::FAIL;
@@ -14,7 +14,7 @@ use crate::plan::Plan;
 use crate::points::{Demand, NotCompiled, Part, Place};
 use matcher_code::code::Op;
 use matcher_program::form::{Form, Program};
-use matcher_sets::heads::Heads;
+use matcher_sets::first_sets::FirstSets;
 use std::alloc::Global;
 
 impl<'p> Plan<'p> {
@@ -25,28 +25,28 @@ impl<'p> Plan<'p> {
         program: &Program,
         body: &'p Form,
         at: Place,
-        own: u32,
+        fresh: u32,
         begin: Op,
         found: u32,
     ) -> Result<(), NotCompiled>
         requires bound { IsBoundIn program.now body.now }
         ensures later { OnOk result (IsLater program.now self.old self.new) }
-        ensures positive { OnOk result (begin ≡ op.Try own at.way → found ≡ at.next
+        ensures positive { OnOk result (begin ≡ op.Try fresh at.on_fail → found ≡ at.next
             → LaysAt program.now self.new
             (Run (mode_of at.mode) (PosPred (said program.now body.entry.now))) at) }
-        ensures negative { OnOk result (begin ≡ op.Not own at.next → found ≡ at.way
+        ensures negative { OnOk result (begin ≡ op.Not fresh at.next → found ≡ at.on_fail
             → LaysAt program.now self.new
             (Run (mode_of at.mode) (NegPred (said program.now body.entry.now))) at) }
     {
-        let last = own.saturating_add(1);
+        let last = fresh.saturating_add(1);
         self.operation(at.label, begin)?;
         self.operation(last, Op::Ahead { next: found })?;
         self.point(
             Part::Form(body),
             Place {
-                label: own,
+                label: fresh,
                 next: last,
-                way: FAIL,
+                on_fail: FAIL,
                 ..at
             },
         )?;
@@ -60,7 +60,7 @@ impl<'p> Plan<'p> {
         first: Part<'p>,
         second: Part<'p>,
         at: Place,
-        own: u32,
+        fresh: u32,
     ) -> Result<(), NotCompiled>
         requires first_bound { IsBoundPart program.now first }
         requires second_bound { IsBoundPart program.now second }
@@ -68,24 +68,24 @@ impl<'p> Plan<'p> {
         ensures lays { OnOk result (HasParts program.now self.new first.entry second.entry at) }
     {
         let begin = if self.is_tight(at.mode) {
-            own
+            fresh
         } else {
-            own.saturating_add(1)
+            fresh.saturating_add(1)
         };
         self.point(
             first,
             Place {
-                next: own,
-                way: FAIL,
+                next: fresh,
+                on_fail: FAIL,
                 ..at
             },
         )?;
         self.point(
             Part::Gap,
             Place {
-                label: own,
+                label: fresh,
                 next: begin,
-                way: FAIL,
+                on_fail: FAIL,
                 ..at
             },
         )?;
@@ -93,7 +93,7 @@ impl<'p> Plan<'p> {
             second,
             Place {
                 label: begin,
-                way: FAIL,
+                on_fail: FAIL,
                 ..at
             },
         )?;
@@ -107,18 +107,18 @@ impl<'p> Plan<'p> {
         first: Part<'p>,
         second: Part<'p>,
         at: Place,
-        own: u32,
+        fresh: u32,
     ) -> Result<(), NotCompiled>
         requires first_bound { IsBoundPart program.now first }
         requires second_bound { IsBoundPart program.now second }
-        requires way { at.way ≡ 0 }
+        requires on_fail { at.on_fail ≡ 0 }
         ensures later { OnOk result (IsLater program.now self.old self.new) }
         ensures lays { OnOk result ((a b : Expression)
             → task_in program.now first.entry (mode_of at.mode) ≡ Run (mode_of at.mode) a
             → task_in program.now second.entry (mode_of at.mode) ≡ Run (mode_of at.mode) b
             → LaysAt program.now self.new (Run (mode_of at.mode) (Seq a b)) at) }
     {
-        self.parts(program, first, second, at, own)?;
+        self.parts(program, first, second, at, fresh)?;
         Ok(())
     }
 
@@ -129,7 +129,7 @@ impl<'p> Plan<'p> {
         first: Part<'p>,
         second: Part<'p>,
         at: Place,
-        own: u32,
+        fresh: u32,
     ) -> Result<(), NotCompiled>
         requires first_bound { IsBoundPart program.now first }
         requires second_bound { IsBoundPart program.now second }
@@ -139,23 +139,23 @@ impl<'p> Plan<'p> {
             → task_in program.now second.entry (mode_of at.mode) ≡ Run (mode_of at.mode) b
             → LaysAt program.now self.new (Run (mode_of at.mode) (Seq a b)) at) }
     {
-        let last = own.saturating_add(2);
-        let start = own.saturating_add(3);
+        let last = fresh.saturating_add(2);
+        let start = fresh.saturating_add(3);
         self.operation(
             at.label,
             Op::Try {
                 next: start,
-                fail: at.way,
+                fail: at.on_fail,
             },
         )?;
         self.operation(last, Op::Commit { next: at.next })?;
         let inner = Place {
             label: start,
             next: last,
-            way: FAIL,
+            on_fail: FAIL,
             ..at
         };
-        self.parts(program, first, second, inner, own)?;
+        self.parts(program, first, second, inner, fresh)?;
         Ok(())
     }
 
@@ -166,7 +166,7 @@ impl<'p> Plan<'p> {
         first: Part<'p>,
         second: Part<'p>,
         at: Place,
-        own: u32,
+        fresh: u32,
     ) -> Result<(), NotCompiled>
         requires first_bound { IsBoundPart program.now first }
         requires second_bound { IsBoundPart program.now second }
@@ -176,64 +176,66 @@ impl<'p> Plan<'p> {
             → task_in program.now second.entry (mode_of at.mode) ≡ Run (mode_of at.mode) b
             → LaysAt program.now self.new (Run (mode_of at.mode) (Seq a b)) at) }
     {
-        if at.way == FAIL {
-            self.bare_sequence(program, first, second, at, own)
+        if at.on_fail == FAIL {
+            self.bare_sequence(program, first, second, at, fresh)
         } else {
-            self.tried_sequence(program, first, second, at, own)
+            self.tried_sequence(program, first, second, at, fresh)
         }
     }
 
     /// Plans an alternative, after a test of its first character if that spares something. The labels from
-    /// `own` on are free.
+    /// `fresh` on are free.
     fn alternative(
         &mut self,
         alloc: Global,
         program: &Program,
-        heads: &Heads,
+        first_sets: &FirstSets,
         form: &'p Form,
         at: Place,
-        own: u32,
+        fresh: u32,
     ) -> Result<(), NotCompiled>
         requires sound { IsSoundProgram program.now }
-        requires heads { AreHeads program.now heads.now }
+        requires first_sets { AreFirstSets program.now first_sets.now }
         requires bound { IsBoundIn program.now form.now }
         ensures later { OnOk result (IsLater program.now self.old self.new) }
         ensures begins { OnOk result (BeginsAt program.now self.new
             (Run (mode_of at.mode) (said program.now form.entry.now)) at) }
     {
-        let label = self.enter(alloc, program, heads, form, at, own)?;
+        let label = self.enter(alloc, program, first_sets, form, at, fresh)?;
         self.point(Part::Form(form), Place { label, ..at })?;
         Ok(())
     }
 
-    /// Plans a choice, by a table or by its alternatives in turn. The labels from `own` on are free.
+    /// Plans a choice, by a table or by its alternatives in turn. The labels from `fresh` on are free.
     pub(crate) fn choice(
         &mut self,
         alloc: Global,
         program: &Program,
-        heads: &Heads,
+        first_sets: &FirstSets,
         left: &'p Form,
         right: &'p Form,
         at: Place,
-        own: u32,
+        fresh: u32,
     ) -> Result<(), NotCompiled>
         requires sound { IsSoundProgram program.now }
-        requires heads { AreHeads program.now heads.now }
+        requires first_sets { AreFirstSets program.now first_sets.now }
         requires left_bound { IsBoundIn program.now left.now }
         requires right_bound { IsBoundIn program.now right.now }
         ensures later { OnOk result (IsLater program.now self.old self.new) }
         ensures lays { OnOk result (LaysAt program.now self.new (Run (mode_of at.mode)
             (Choice (said program.now left.entry.now) (said program.now right.entry.now))) at) }
     {
-        if own == FAIL {
+        if fresh == FAIL {
             return Err(NotCompiled::Unsupported);
         }
-        let made = self.table_head(alloc, program, heads, left, at.mode)?;
+        let made = self.table_first_set(alloc, program, first_sets, left, at.mode)?;
         match made {
-            Some(head) => {
-                self.switched_choice(alloc, program, heads, head, left, right, at, own)
+            Some(first_set) => {
+                self.switched_choice(
+                    alloc, program, first_sets, first_set, left, right, at, fresh,
+                )
             }
-            None => self.tried_choice(alloc, program, heads, left, right, at, own),
+            None => self.tried_choice(alloc, program, first_sets, left, right, at, fresh),
         }
     }
 
@@ -242,25 +244,42 @@ impl<'p> Plan<'p> {
         &mut self,
         alloc: Global,
         program: &Program,
-        heads: &Heads,
+        first_sets: &FirstSets,
         left: &'p Form,
         right: &'p Form,
         at: Place,
-        own: u32,
+        fresh: u32,
     ) -> Result<(), NotCompiled>
         requires sound { IsSoundProgram program.now }
-        requires heads { AreHeads program.now heads.now }
+        requires first_sets { AreFirstSets program.now first_sets.now }
         requires left_bound { IsBoundIn program.now left.now }
         requires right_bound { IsBoundIn program.now right.now }
-        requires up { 0 < own }
+        requires up { 0 < fresh }
         ensures later { OnOk result (IsLater program.now self.old self.new) }
         ensures lays { OnOk result (LaysAt program.now self.new (Run (mode_of at.mode)
             (Choice (said program.now left.entry.now) (said program.now right.entry.now))) at) }
     {
-        let first = Place { way: own, ..at };
-        let second = Place { label: own, ..at };
-        self.alternative(alloc, program, heads, left, first, own.saturating_add(1))?;
-        self.alternative(alloc, program, heads, right, second, own.saturating_add(3))?;
+        let first = Place {
+            on_fail: fresh,
+            ..at
+        };
+        let second = Place { label: fresh, ..at };
+        self.alternative(
+            alloc,
+            program,
+            first_sets,
+            left,
+            first,
+            fresh.saturating_add(1),
+        )?;
+        self.alternative(
+            alloc,
+            program,
+            first_sets,
+            right,
+            second,
+            fresh.saturating_add(3),
+        )?;
         Ok(())
     }
 
@@ -269,13 +288,13 @@ impl<'p> Plan<'p> {
         &mut self,
         alloc: Global,
         program: &Program,
-        heads: &Heads,
+        first_sets: &FirstSets,
         body: &'p Form,
         at: Place,
-        own: u32,
+        fresh: u32,
     ) -> Result<(), NotCompiled>
         requires sound { IsSoundProgram program.now }
-        requires heads { AreHeads program.now heads.now }
+        requires first_sets { AreFirstSets program.now first_sets.now }
         requires bound { IsBoundIn program.now body.now }
         ensures later { OnOk result (IsLater program.now self.old self.new) }
         ensures lays { OnOk result (LaysAt program.now self.new (Run (mode_of at.mode)
@@ -284,8 +303,11 @@ impl<'p> Plan<'p> {
         if at.next == FAIL {
             return Err(NotCompiled::Unsupported);
         }
-        let tried = Place { way: at.next, ..at };
-        self.alternative(alloc, program, heads, body, tried, own)?;
+        let tried = Place {
+            on_fail: at.next,
+            ..at
+        };
+        self.alternative(alloc, program, first_sets, body, tried, fresh)?;
         Ok(())
     }
 
@@ -310,25 +332,25 @@ impl<'p> Plan<'p> {
             Part::Form(body),
             Place {
                 next: at.label,
-                way: at.next,
+                on_fail: at.next,
                 ..at
             },
         )?;
         Ok(())
     }
 
-    /// Plans a repetition with skipping between its turns. The labels from `own` on are free.
+    /// Plans a repetition with skipping between its turns. The labels from `fresh` on are free.
     pub(crate) fn repetition(
         &mut self,
         alloc: Global,
         program: &Program,
-        heads: &Heads,
+        first_sets: &FirstSets,
         body: &'p Form,
         at: Place,
-        own: u32,
+        fresh: u32,
     ) -> Result<(), NotCompiled>
         requires sound { IsSoundProgram program.now }
-        requires heads { AreHeads program.now heads.now }
+        requires first_sets { AreFirstSets program.now first_sets.now }
         requires bound { IsBoundIn program.now body.now }
         ensures later { OnOk result (IsLater program.now self.old self.new) }
         ensures lays { OnOk result (LaysAt program.now self.new (Run (mode_of at.mode)
@@ -337,9 +359,19 @@ impl<'p> Plan<'p> {
         if at.next == FAIL {
             return Err(NotCompiled::Unsupported);
         }
-        let tried = Place { way: at.next, ..at };
-        let start = self.enter_by_test(alloc, program, heads, body, tried, own.saturating_add(4))?;
-        self.turns_from(program, body, at, start, own)?;
+        let tried = Place {
+            on_fail: at.next,
+            ..at
+        };
+        let start = self.enter_by_test(
+            alloc,
+            program,
+            first_sets,
+            body,
+            tried,
+            fresh.saturating_add(4),
+        )?;
+        self.turns_from(program, body, at, start, fresh)?;
         Ok(())
     }
 
@@ -350,7 +382,7 @@ impl<'p> Plan<'p> {
         body: &'p Form,
         at: Place,
         start: u32,
-        own: u32,
+        fresh: u32,
     ) -> Result<(), NotCompiled>
         requires bound { IsBoundIn program.now body.now }
         requires next { 0 < at.next }
@@ -358,9 +390,9 @@ impl<'p> Plan<'p> {
         ensures lays { OnOk result (HasTurns program.now self.new
             (said program.now body.entry.now) at start) }
     {
-        let gap = own.saturating_add(1);
-        let first = own.saturating_add(2);
-        let last = own.saturating_add(3);
+        let gap = fresh.saturating_add(1);
+        let first = fresh.saturating_add(2);
+        let last = fresh.saturating_add(3);
         self.operation(
             start,
             Op::Try {
@@ -369,19 +401,19 @@ impl<'p> Plan<'p> {
             },
         )?;
         self.operation(
-            own,
+            fresh,
             Op::Try {
                 next: gap,
                 fail: at.next,
             },
         )?;
-        self.operation(last, Op::Commit { next: own })?;
+        self.operation(last, Op::Commit { next: fresh })?;
         self.point(
             Part::Gap,
             Place {
                 label: gap,
                 next: first,
-                way: FAIL,
+                on_fail: FAIL,
                 ..at
             },
         )?;
@@ -390,7 +422,7 @@ impl<'p> Plan<'p> {
             Place {
                 label: first,
                 next: last,
-                way: FAIL,
+                on_fail: FAIL,
                 ..at
             },
         )?;

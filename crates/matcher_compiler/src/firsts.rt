@@ -6,7 +6,7 @@ ghost use Rattle.matcher_code.specs.Laid as lay;
 ghost use Rattle.matcher_code.specs.Laid.{GoesTo};
 ghost use Rattle.matcher_program.specs.declared.form.Program.{Program};
 ghost use Rattle.matcher_sets.specs.Forms.{IsBoundIn, IsSoundProgram, said};
-ghost use Rattle.matcher_sets.specs.Heads.{AreHeads};
+ghost use Rattle.matcher_sets.specs.FirstSets.{AreFirstSets};
 ghost use Rattle.matcher_sets.specs.Modes.{mode_of};
 ghost use Rattle.matcher_compiler.specs.Plans.{EntersAt, FailsWithout, IsLater, Meets, TakesNoneIn};
 
@@ -16,7 +16,7 @@ use crate::points::{NotCompiled, Place};
 use matcher_code::code::Op;
 use matcher_code::ranges::Ranges;
 use matcher_program::form::{Form, Program};
-use matcher_sets::heads::{Head, Heads, head_of};
+use matcher_sets::first_sets::{FirstSet, FirstSets, first_set_of};
 use matcher_sets::modes::Atomicity;
 use std::alloc::Global;
 
@@ -47,53 +47,53 @@ fn is_wide(ranges: &Ranges) -> bool {
     false
 }
 
-/// Returns the head of a form in a mode, if it is known and the form fails elsewhere.
-pub(crate) fn narrow_head(
+/// Returns the FIRST set of a form in a mode, if it is known and the form fails elsewhere.
+pub(crate) fn narrow_first_set(
     alloc: Global,
     program: &Program,
-    heads: &Heads,
+    first_sets: &FirstSets,
     form: &Form,
     mode: Atomicity,
-) -> Result<Option<Head>, NotCompiled>
+) -> Result<Option<FirstSet>, NotCompiled>
     requires sound { IsSoundProgram program.now }
-    requires heads { AreHeads program.now heads.now }
+    requires first_sets { AreFirstSets program.now first_sets.now }
     requires bound { IsBoundIn program.now form.now }
     ensures { IfOk result (λ made. IfSome made
         (FailsWithout program.now (Run (mode_of mode) (said program.now form.now)))) }
 {
-    let made = head_of(alloc, program, heads, form, mode)?;
+    let made = first_set_of(alloc, program, first_sets, form, mode)?;
     match made {
-        Some(head) => {
-            if head.empty || is_wide(&head.ranges) {
+        Some(first_set) => {
+            if first_set.empty || is_wide(&first_set.ranges) {
                 Ok(None)
             } else {
-                Ok(Some(head))
+                Ok(Some(first_set))
             }
         }
         None => Ok(None),
     }
 }
 
-/// Returns the head of a form in a mode, if it is known and the form takes nothing elsewhere, and
+/// Returns the FIRST set of a form in a mode, if it is known and the form takes nothing elsewhere, and
 /// does not fail.
-pub(crate) fn spare_head(
+pub(crate) fn spare_first_set(
     alloc: Global,
     program: &Program,
-    heads: &Heads,
+    first_sets: &FirstSets,
     form: &Form,
     mode: Atomicity,
-) -> Result<Option<Head>, NotCompiled>
+) -> Result<Option<FirstSet>, NotCompiled>
     requires sound { IsSoundProgram program.now }
-    requires heads { AreHeads program.now heads.now }
+    requires first_sets { AreFirstSets program.now first_sets.now }
     requires bound { IsBoundIn program.now form.now }
     ensures { IfOk result (λ made. IfSome made
         (TakesNoneIn program.now (Run (mode_of mode) (said program.now form.now)))) }
 {
-    let made = head_of(alloc, program, heads, form, mode)?;
+    let made = first_set_of(alloc, program, first_sets, form, mode)?;
     match made {
-        Some(head) => {
-            if head.empty && !is_wide(&head.ranges) {
-                Ok(Some(head))
+        Some(first_set) => {
+            if first_set.empty && !is_wide(&first_set.ranges) {
+                Ok(Some(first_set))
             } else {
                 Ok(None)
             }
@@ -114,84 +114,89 @@ impl<'p> Plan<'p> {
         }
     }
 
-    /// Returns the label at which a failure goes on at `way`, after an operation at the label `note` if it is
-    /// recorded.
-    pub(crate) fn miss(&mut self, noted: bool, way: u32, note: u32) -> Result<u32, NotCompiled>
+    /// Returns the label at which a failure goes on at `on_fail`, after an operation at the label `note` if
+    /// it is recorded.
+    pub(crate) fn miss(&mut self, noted: bool, on_fail: u32, note: u32) -> Result<u32, NotCompiled>
         ensures later { OnOk result ((p : Program) → IsLater p self.old self.new) }
         ensures goes { IfOk result (λ miss. (p : Program) (code : CodeLists) (laid : List lay.Point)
-            → Meets p self.new code laid → GoesTo code noted miss way) }
+            → Meets p self.new code laid → GoesTo code noted miss on_fail) }
     {
         if noted {
-            self.operation(note, Op::Note { next: way })?;
+            self.operation(note, Op::Note { next: on_fail })?;
             Ok(note)
         } else {
-            Ok(way)
+            Ok(on_fail)
         }
     }
 
-    /// Plans a test of the next character before a task that fails where none of a head is next. Returns the
-    /// label at which the task begins then. The labels from `own` on are free.
-    pub(crate) fn test(&mut self, head: Head, at: Place, own: u32) -> Result<u32, NotCompiled>
+    /// Plans a test of the next character before a task that fails where none of a FIRST set is next. Returns
+    /// the label at which the task begins then. The labels from `fresh` on are free.
+    pub(crate) fn test(
+        &mut self,
+        first_set: FirstSet,
+        at: Place,
+        fresh: u32,
+    ) -> Result<u32, NotCompiled>
         ensures later { OnOk result ((p : Program) → IsLater p self.old self.new) }
         ensures enters { IfOk result (λ first. (p : Program) (k : Task)
-            → FailsWithout p k head → EntersAt p self.new k at first) }
+            → FailsWithout p k first_set → EntersAt p self.new k at first) }
     {
-        let Head {
+        let FirstSet {
             ranges,
             empty: _,
             noted,
-        } = head;
-        let note = own.saturating_add(1);
-        let miss = self.miss(noted, at.way, note)?;
+        } = first_set;
+        let note = fresh.saturating_add(1);
+        let miss = self.miss(noted, at.on_fail, note)?;
         let set = self.set(ranges)?;
         self.operation(
             at.label,
             Op::IsOne {
                 set,
-                next: own,
+                next: fresh,
                 fail: miss,
             },
         )?;
-        Ok(own)
+        Ok(fresh)
     }
 
     /// Plans a test of the next character before a form, if it spares something. Returns the label at which
-    /// the form begins. The labels from `own` on are free.
+    /// the form begins. The labels from `fresh` on are free.
     pub(crate) fn enter(
         &mut self,
         alloc: Global,
         program: &Program,
-        heads: &Heads,
+        first_sets: &FirstSets,
         form: &Form,
         at: Place,
-        own: u32,
+        fresh: u32,
     ) -> Result<u32, NotCompiled>
         requires sound { IsSoundProgram program.now }
-        requires heads { AreHeads program.now heads.now }
+        requires first_sets { AreFirstSets program.now first_sets.now }
         requires bound { IsBoundIn program.now form.now }
         ensures later { OnOk result (IsLater program.now self.old self.new) }
         ensures enters { IfOk result (EntersAt program.now self.new
             (Run (mode_of at.mode) (said program.now form.now)) at) }
     {
-        if at.way == FAIL {
+        if at.on_fail == FAIL {
             return Ok(at.label);
         }
-        self.enter_any(alloc, program, heads, form, at, own)
+        self.enter_any(alloc, program, first_sets, form, at, fresh)
     }
 
     /// Plans a test of the next character before a form, also if a failure goes on as the last slot says.
-    /// Returns the label at which the form begins. The labels from `own` on are free.
+    /// Returns the label at which the form begins. The labels from `fresh` on are free.
     pub(crate) fn enter_any(
         &mut self,
         alloc: Global,
         program: &Program,
-        heads: &Heads,
+        first_sets: &FirstSets,
         form: &Form,
         at: Place,
-        own: u32,
+        fresh: u32,
     ) -> Result<u32, NotCompiled>
         requires sound { IsSoundProgram program.now }
-        requires heads { AreHeads program.now heads.now }
+        requires first_sets { AreFirstSets program.now first_sets.now }
         requires bound { IsBoundIn program.now form.now }
         ensures later { OnOk result (IsLater program.now self.old self.new) }
         ensures enters { IfOk result (EntersAt program.now self.new
@@ -200,52 +205,52 @@ impl<'p> Plan<'p> {
         if !self.is_long_at(program, form, at) {
             return Ok(at.label);
         }
-        self.enter_by_test(alloc, program, heads, form, at, own)
+        self.enter_by_test(alloc, program, first_sets, form, at, fresh)
     }
 
-    /// Plans a test of the next character before a form, if its head is known. Returns the label at which the
-    /// form begins. The labels from `own` on are free.
+    /// Plans a test of the next character before a form, if its FIRST set is known. Returns the label at
+    /// which the form begins. The labels from `fresh` on are free.
     pub(crate) fn enter_by_test(
         &mut self,
         alloc: Global,
         program: &Program,
-        heads: &Heads,
+        first_sets: &FirstSets,
         form: &Form,
         at: Place,
-        own: u32,
+        fresh: u32,
     ) -> Result<u32, NotCompiled>
         requires sound { IsSoundProgram program.now }
-        requires heads { AreHeads program.now heads.now }
+        requires first_sets { AreFirstSets program.now first_sets.now }
         requires bound { IsBoundIn program.now form.now }
         ensures later { OnOk result (IsLater program.now self.old self.new) }
         ensures enters { IfOk result (EntersAt program.now self.new
             (Run (mode_of at.mode) (said program.now form.now)) at) }
     {
-        let made = narrow_head(alloc, program, heads, form, at.mode)?;
+        let made = narrow_first_set(alloc, program, first_sets, form, at.mode)?;
         match made {
-            Some(head) => {
-                let first = self.test(head, at, own)?;
+            Some(first_set) => {
+                let first = self.test(first_set, at, fresh)?;
                 Ok(first)
             }
             None => Ok(at.label),
         }
     }
 
-    /// Plans a test of the next character before a task, if its head is known. Returns the label at which the
-    /// task begins. The labels from `own` on are free.
-    pub(crate) fn enter_head(
+    /// Plans a test of the next character before a task, if its FIRST set is known. Returns the label at
+    /// which the task begins. The labels from `fresh` on are free.
+    pub(crate) fn enter_first_set(
         &mut self,
-        head: Option<Head>,
+        first_set: Option<FirstSet>,
         at: Place,
-        own: u32,
+        fresh: u32,
     ) -> Result<u32, NotCompiled>
         ensures later { OnOk result ((p : Program) → IsLater p self.old self.new) }
-        ensures enters { IfOk result (λ first. (p : Program) (k : Task) → IfSome head (FailsWithout p k)
+        ensures enters { IfOk result (λ first. (p : Program) (k : Task) → IfSome first_set (FailsWithout p k)
             → EntersAt p self.new k at first) }
     {
-        match head {
-            Some(head) => {
-                let first = self.test(head, at, own)?;
+        match first_set {
+            Some(first_set) => {
+                let first = self.test(first_set, at, fresh)?;
                 Ok(first)
             }
             None => Ok(at.label),

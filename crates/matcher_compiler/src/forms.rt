@@ -51,7 +51,7 @@ impl<'p> Plan<'p> {
             Op::One {
                 set,
                 next: at.next,
-                fail: at.way,
+                fail: at.on_fail,
             },
         )?;
         Ok(())
@@ -119,7 +119,7 @@ impl<'p> Plan<'p> {
             Op::One {
                 set,
                 next: at.next,
-                fail: at.way,
+                fail: at.on_fail,
             },
         )?;
         Ok(())
@@ -143,7 +143,7 @@ impl<'p> Plan<'p> {
             Op::Text {
                 text: number,
                 next: at.next,
-                fail: at.way,
+                fail: at.on_fail,
             },
         )?;
         Ok(())
@@ -167,7 +167,7 @@ impl<'p> Plan<'p> {
             Op::AnyCase {
                 text: number,
                 next: at.next,
-                fail: at.way,
+                fail: at.on_fail,
             },
         )?;
         Ok(())
@@ -198,26 +198,26 @@ impl<'p> Plan<'p> {
         Ok(())
     }
 
-    /// Plans `NEWLINE`. The labels from `own` on are free.
+    /// Plans `NEWLINE`. The labels from `fresh` on are free.
     pub(crate) fn newline(
         &mut self,
         alloc: Global,
         program: &Program,
         at: Place,
-        own: u32,
+        fresh: u32,
     ) -> Result<(), NotCompiled>
         requires bound { rule_of (grammar_in program.now) (codes "NEWLINE") ≡ None }
         ensures later { OnOk result (IsLater program.now self.old self.new) }
         ensures lays { OnOk result
             (LaysAt program.now self.new (Run (mode_of at.mode) (Ident (codes "NEWLINE"))) at) }
     {
-        if own == FAIL {
+        if fresh == FAIL {
             return Err(NotCompiled::Unsupported);
         }
-        let last = own.saturating_add(1);
-        self.text_at(alloc, "\n", at.label, at.next, own)?;
-        self.text_at(alloc, "\r\n", own, at.next, last)?;
-        self.text_at(alloc, "\r", last, at.next, at.way)?;
+        let last = fresh.saturating_add(1);
+        self.text_at(alloc, "\n", at.label, at.next, fresh)?;
+        self.text_at(alloc, "\r\n", fresh, at.next, last)?;
+        self.text_at(alloc, "\r", last, at.next, at.on_fail)?;
         Ok(())
     }
 
@@ -232,7 +232,7 @@ impl<'p> Plan<'p> {
             at.label,
             Op::Start {
                 next: at.next,
-                fail: at.way,
+                fail: at.on_fail,
             },
         )?;
         Ok(())
@@ -250,14 +250,19 @@ impl<'p> Plan<'p> {
             at.label,
             Op::End {
                 next: at.next,
-                fail: at.way,
+                fail: at.on_fail,
             },
         )?;
         Ok(())
     }
 
-    /// Plans `EOI` where it gives a tree. The labels from `own` on are free.
-    pub(crate) fn end(&mut self, program: &Program, at: Place, own: u32) -> Result<(), NotCompiled>
+    /// Plans `EOI` where it gives a tree. The labels from `fresh` on are free.
+    pub(crate) fn end(
+        &mut self,
+        program: &Program,
+        at: Place,
+        fresh: u32,
+    ) -> Result<(), NotCompiled>
         requires bound { rule_of (grammar_in program.now) (codes "EOI") ≡ None }
         requires seen { seen_from (mode_of at.mode) ≡ true }
         requires few { length program.now.rows.items < 2 ^ 28 }
@@ -265,17 +270,23 @@ impl<'p> Plan<'p> {
         ensures lays { OnOk result
             (LaysAt program.now self.new (Run (mode_of at.mode) (Ident (codes "EOI"))) at) }
     {
-        let note = own.saturating_add(1);
+        let note = fresh.saturating_add(1);
         let row = end_row(program);
         self.operation(
             at.label,
             Op::End {
-                next: own,
+                next: fresh,
                 fail: note,
             },
         )?;
-        self.operation(own, Op::Leaf { row, next: at.next })?;
-        self.operation(note, Op::Miss { row, next: at.way })?;
+        self.operation(fresh, Op::Leaf { row, next: at.next })?;
+        self.operation(
+            note,
+            Op::Miss {
+                row,
+                next: at.on_fail,
+            },
+        )?;
         Ok(())
     }
 }

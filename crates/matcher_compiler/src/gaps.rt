@@ -8,7 +8,7 @@ ghost use Rattle.matcher_program.specs.Programs.{IsRuleOf, name_at, names_of};
 ghost use Rattle.matcher_sets.specs.Modes.{mode_of};
 ghost use Rattle.matcher_compiler.specs.Names.{AreLast};
 ghost use Rattle.matcher_sets.specs.Forms.{IsSoundProgram, grammar_in};
-ghost use Rattle.matcher_sets.specs.Heads.{AreHeads, HasHead};
+ghost use Rattle.matcher_sets.specs.FirstSets.{AreFirstSets, HasFirstSet};
 ghost use Rattle.matcher_compiler.specs.Plans.{FailsWithout, IsBlankSet, IsBoundPart, IsLater, IsReady, IsTightIn, LaysAt, blanks, one_comment, task_in};
 
 use crate::forms::FAIL;
@@ -16,58 +16,68 @@ use crate::plan::{Plan, Skips};
 use crate::points::{Demand, NotCompiled, Part, Place};
 use matcher_code::code::Op;
 use matcher_program::form::Program;
-use matcher_sets::heads::{Head, Heads, call_head};
+use matcher_sets::first_sets::{FirstSet, FirstSets, call_first_set};
 use matcher_sets::modes::Atomicity;
 use std::alloc::Global;
 
-/// Returns the head of a call of a rule, if it is known, and the rule takes something.
-fn sure_head(
+/// Returns the FIRST set of a call of a rule, if it is known, and the rule takes something.
+fn sure_first_set(
     alloc: Global,
     program: &Program,
-    heads: &Heads,
+    first_sets: &FirstSets,
     rule: usize,
-) -> Result<Option<Head>, NotCompiled>
+) -> Result<Option<FirstSet>, NotCompiled>
     requires sound { IsSoundProgram program.now }
-    requires heads { AreHeads program.now heads.now }
+    requires first_sets { AreFirstSets program.now first_sets.now }
     requires meant { IsRuleOf (grammar_in program.now)
         (name_at (names_of program.now.rows.items) rule) rule }
-    ensures head { IfOk result (λ made. IfSome made (HasHead program.now NonAtomicMode
+    ensures first_set { IfOk result (λ made. IfSome made (HasFirstSet program.now NonAtomicMode
         (Ident (name_at (names_of program.now.rows.items) rule)))) }
-    ensures takes { IfOk result (λ made. IfSome made (λ head. head.empty ≡ false)) }
+    ensures takes { IfOk result (λ made. IfSome made (λ first_set. first_set.empty ≡ false)) }
 {
-    let made = call_head(alloc, program, heads, rule, Atomicity::NonAtomic)?;
+    let made = call_first_set(alloc, program, first_sets, rule, Atomicity::NonAtomic)?;
     match made {
-        Some(head) => { if head.empty { Ok(None) } else { Ok(Some(head)) } }
+        Some(first_set) => {
+            if first_set.empty {
+                Ok(None)
+            } else {
+                Ok(Some(first_set))
+            }
+        }
         None => Ok(None),
     }
 }
 
-/// Returns the head of a comment, if it is known, and a comment takes something.
-pub(crate) fn comment_head(
+/// Returns the FIRST set of a comment, if it is known, and a comment takes something.
+pub(crate) fn comment_first_set(
     alloc: Global,
     program: &Program,
-    heads: &Heads,
-) -> Result<Option<Head>, NotCompiled>
+    first_sets: &FirstSets,
+) -> Result<Option<FirstSet>, NotCompiled>
     requires sound { IsSoundProgram program.now }
-    requires heads { AreHeads program.now heads.now }
+    requires first_sets { AreFirstSets program.now first_sets.now }
     ensures { IfOk result (λ made. IfSome made
         (FailsWithout program.now (Run Between one_comment))) }
 {
     match program.comment {
-        Some(rule) => sure_head(alloc, program, heads, rule),
+        Some(rule) => sure_first_set(alloc, program, first_sets, rule),
         None => Ok(None),
     }
 }
 
-/// Returns the head of a blank, if it is known, and a blank takes something.
-fn blank_head(alloc: Global, program: &Program, heads: &Heads) -> Result<Option<Head>, NotCompiled>
+/// Returns the FIRST set of a blank, if it is known, and a blank takes something.
+fn blank_first_set(
+    alloc: Global,
+    program: &Program,
+    first_sets: &FirstSets,
+) -> Result<Option<FirstSet>, NotCompiled>
     requires sound { IsSoundProgram program.now }
-    requires heads { AreHeads program.now heads.now }
+    requires first_sets { AreFirstSets program.now first_sets.now }
     ensures { IfOk result (λ made. IfSome made
         (FailsWithout program.now (Run Between (Ident whitespace)))) }
 {
     match program.whitespace {
-        Some(rule) => sure_head(alloc, program, heads, rule),
+        Some(rule) => sure_first_set(alloc, program, first_sets, rule),
         None => Ok(None),
     }
 }
@@ -118,8 +128,13 @@ impl<'p> Plan<'p> {
         Ok(())
     }
 
-    /// Plans the implicit skipping. The labels from `own` on are free.
-    pub(crate) fn gap(&mut self, program: &Program, at: Place, own: u32) -> Result<(), NotCompiled>
+    /// Plans the implicit skipping. The labels from `fresh` on are free.
+    pub(crate) fn gap(
+        &mut self,
+        program: &Program,
+        at: Place,
+        fresh: u32,
+    ) -> Result<(), NotCompiled>
         requires ready { IsReady program.now self.old }
         ensures later { OnOk result (IsLater program.now self.old self.new) }
         ensures lays { OnOk result (LaysAt program.now self.new (Skipping (mode_of at.mode)) at) }
@@ -131,71 +146,71 @@ impl<'p> Plan<'p> {
                 Skips::Nothing => Err(NotCompiled::Unsupported),
                 Skips::Blanks(set) => self.skip_blanks(program, set, at),
                 Skips::Comments(_) => self.skip_both(program, at),
-                Skips::Calls(_) => self.skip_call(program, at, own),
+                Skips::Calls(_) => self.skip_call(program, at, fresh),
             }
         }
     }
 
-    /// Plans blanks, and then comments. The labels from `own` on are free.
+    /// Plans blanks, and then comments. The labels from `fresh` on are free.
     pub(crate) fn blanks_and_comments(
         &mut self,
         program: &Program,
         at: Place,
-        own: u32,
+        fresh: u32,
     ) -> Result<(), NotCompiled>
-        requires way { at.way ≡ 0 }
+        requires on_fail { at.on_fail ≡ 0 }
         ensures later { OnOk result (IsLater program.now self.old self.new) }
         ensures lays { OnOk result (LaysAt program.now self.new (Run Between skipped) at) }
     {
         self.point(
             Part::Blanks,
             Place {
-                next: own,
-                way: FAIL,
+                next: fresh,
+                on_fail: FAIL,
                 ..at
             },
         )?;
         self.point(
             Part::Stay,
             Place {
-                label: own,
-                next: own,
-                way: FAIL,
+                label: fresh,
+                next: fresh,
+                on_fail: FAIL,
                 ..at
             },
         )?;
         self.point(
             Part::Comments,
             Place {
-                label: own,
-                way: FAIL,
+                label: fresh,
+                on_fail: FAIL,
                 ..at
             },
         )?;
         Ok(())
     }
 
-    /// Plans the skipping as an expression: blanks, and then comments. The labels from `own` on are free.
+    /// Plans the skipping as an expression: blanks, and then comments. The labels from `fresh` on are free.
     pub(crate) fn plan_skipping(
         &mut self,
         alloc: Global,
         program: &Program,
-        heads: &Heads,
+        first_sets: &FirstSets,
         at: Place,
-        own: u32,
+        fresh: u32,
     ) -> Result<(), NotCompiled>
         requires sound { IsSoundProgram program.now }
-        requires heads { AreHeads program.now heads.now }
+        requires first_sets { AreFirstSets program.now first_sets.now }
         requires ready { IsReady program.now self.old }
         ensures later { OnOk result (IsLater program.now self.old self.new) }
         ensures lays { OnOk result (LaysAt program.now self.new (Run Between skipped) at) }
     {
-        if at.way != FAIL {
+        if at.on_fail != FAIL {
             return Err(NotCompiled::Unsupported);
         }
         match self.skips {
-            Skips::Comments(set) => self.blanks_of_set(alloc, program, heads, set, at, own),
-            _ => self.blanks_and_comments(program, at, own),
+            Skips::Comments(set) => self.blanks_of_set(alloc, program, first_sets, set, at, fresh),
+            _ => self.blanks_and_comments(program, at, fresh),
         }
     }
 
@@ -210,20 +225,20 @@ impl<'p> Plan<'p> {
     }
 
     /// Plans as many of a part of the implicit skipping as there are, with a test of the next character if
-    /// the head of the part is known. The labels from `own` on are free.
+    /// the FIRST set of the part is known. The labels from `fresh` on are free.
     fn turns_between(
         &mut self,
         program: &Program,
         part: Part<'p>,
-        head: Option<Head>,
+        first_set: Option<FirstSet>,
         at: Place,
-        own: u32,
+        fresh: u32,
     ) -> Result<(), NotCompiled>
         requires bound { IsBoundPart program.now part }
         ensures later { OnOk result (IsLater program.now self.old self.new) }
         ensures lays { OnOk result ((e : Expression)
             → task_in program.now part.entry (mode_of at.mode) ≡ Run Between e
-            → IfSome head (FailsWithout program.now (Run Between e))
+            → IfSome first_set (FailsWithout program.now (Run Between e))
             → LaysAt program.now self.new (Run Between (Rep e)) at) }
     {
         if at.next == FAIL {
@@ -232,44 +247,44 @@ impl<'p> Plan<'p> {
         self.demand(Demand::GoesOn { label: at.label })?;
         let tried = Place {
             next: at.label,
-            way: at.next,
+            on_fail: at.next,
             ..at
         };
-        let label = self.enter_head(head, tried, own)?;
+        let label = self.enter_first_set(first_set, tried, fresh)?;
         self.point(part, Place { label, ..tried })?;
         Ok(())
     }
 
-    /// Plans as many blanks as there are, by calls of `WHITESPACE`. The labels from `own` on are free.
+    /// Plans as many blanks as there are, by calls of `WHITESPACE`. The labels from `fresh` on are free.
     fn blank_calls(
         &mut self,
         alloc: Global,
         program: &Program,
-        heads: &Heads,
+        first_sets: &FirstSets,
         at: Place,
-        own: u32,
+        fresh: u32,
     ) -> Result<(), NotCompiled>
         requires sound { IsSoundProgram program.now }
-        requires heads { AreHeads program.now heads.now }
+        requires first_sets { AreFirstSets program.now first_sets.now }
         ensures later { OnOk result (IsLater program.now self.old self.new) }
         ensures lays { OnOk result (LaysAt program.now self.new (Run Between blanks) at) }
     {
-        let head = blank_head(alloc, program, heads)?;
-        self.turns_between(program, Part::BlankCall, head, at, own)?;
+        let first_set = blank_first_set(alloc, program, first_sets)?;
+        self.turns_between(program, Part::BlankCall, first_set, at, fresh)?;
         Ok(())
     }
 
-    /// Plans as many blanks as there are. The labels from `own` on are free.
+    /// Plans as many blanks as there are. The labels from `fresh` on are free.
     pub(crate) fn blanks(
         &mut self,
         alloc: Global,
         program: &Program,
-        heads: &Heads,
+        first_sets: &FirstSets,
         at: Place,
-        own: u32,
+        fresh: u32,
     ) -> Result<(), NotCompiled>
         requires sound { IsSoundProgram program.now }
-        requires heads { AreHeads program.now heads.now }
+        requires first_sets { AreFirstSets program.now first_sets.now }
         requires ready { IsReady program.now self.old }
         ensures later { OnOk result (IsLater program.now self.old self.new) }
         ensures lays { OnOk result (LaysAt program.now self.new (Run Between blanks) at) }
@@ -278,17 +293,17 @@ impl<'p> Plan<'p> {
             Skips::Nothing => Err(NotCompiled::Unsupported),
             Skips::Blanks(set) => self.blanks_of(program, set, at),
             Skips::Comments(set) => self.blanks_of(program, set, at),
-            Skips::Calls(_) => self.blank_calls(alloc, program, heads, at, own),
+            Skips::Calls(_) => self.blank_calls(alloc, program, first_sets, at, fresh),
         }
     }
 
-    /// Plans a call of `WHITESPACE`, which is as one in NonAtomic. The labels from `own` on are free.
+    /// Plans a call of `WHITESPACE`, which is as one in NonAtomic. The labels from `fresh` on are free.
     pub(crate) fn blank_call(
         &mut self,
         program: &Program,
         lasts: &[usize],
         at: Place,
-        own: u32,
+        fresh: u32,
     ) -> Result<(), NotCompiled>
         requires sound { IsSoundProgram program.now }
         requires lasts { AreLast program.now.rows.items lasts.now }
@@ -304,7 +319,7 @@ impl<'p> Plan<'p> {
             mode: Atomicity::NonAtomic,
             ..at
         };
-        self.call(program, lasts, rule, place, own)?;
+        self.call(program, lasts, rule, place, fresh)?;
         Ok(())
     }
 
@@ -324,66 +339,66 @@ impl<'p> Plan<'p> {
         Ok(())
     }
 
-    /// Plans as many comments as there are. The labels from `own` on are free.
+    /// Plans as many comments as there are. The labels from `fresh` on are free.
     pub(crate) fn comments(
         &mut self,
         alloc: Global,
         program: &Program,
-        heads: &Heads,
+        first_sets: &FirstSets,
         at: Place,
-        own: u32,
+        fresh: u32,
     ) -> Result<(), NotCompiled>
         requires sound { IsSoundProgram program.now }
-        requires heads { AreHeads program.now heads.now }
+        requires first_sets { AreFirstSets program.now first_sets.now }
         requires ready { IsReady program.now self.old }
         ensures later { OnOk result (IsLater program.now self.old self.new) }
         ensures lays { OnOk result (LaysAt program.now self.new
             (Run Between (Rep one_comment)) at) }
     {
         match program.comment {
-            Some(_) => self.comment_turns(alloc, program, heads, at, own),
+            Some(_) => self.comment_turns(alloc, program, first_sets, at, fresh),
             None => self.no_comments(program, at),
         }
     }
 
-    /// Plans as many comments as there are, by calls. The labels from `own` on are free.
+    /// Plans as many comments as there are, by calls. The labels from `fresh` on are free.
     fn comment_turns(
         &mut self,
         alloc: Global,
         program: &Program,
-        heads: &Heads,
+        first_sets: &FirstSets,
         at: Place,
-        own: u32,
+        fresh: u32,
     ) -> Result<(), NotCompiled>
         requires sound { IsSoundProgram program.now }
-        requires heads { AreHeads program.now heads.now }
+        requires first_sets { AreFirstSets program.now first_sets.now }
         ensures later { OnOk result (IsLater program.now self.old self.new) }
         ensures lays { OnOk result (LaysAt program.now self.new
             (Run Between (Rep one_comment)) at) }
     {
-        let head = comment_head(alloc, program, heads)?;
-        self.turns_between(program, Part::Comment, head, at, own)?;
+        let first_set = comment_first_set(alloc, program, first_sets)?;
+        self.turns_between(program, Part::Comment, first_set, at, fresh)?;
         Ok(())
     }
 
-    /// Plans a comment with blanks after it. The labels from `own` on are free.
+    /// Plans a comment with blanks after it. The labels from `fresh` on are free.
     pub(crate) fn comment(
         &mut self,
         program: &Program,
         at: Place,
-        own: u32,
+        fresh: u32,
     ) -> Result<(), NotCompiled>
         ensures later { OnOk result (IsLater program.now self.old self.new) }
         ensures lays { OnOk result (LaysAt program.now self.new
             (Run Between one_comment) at) }
     {
-        let last = own.saturating_add(1);
-        let start = own.saturating_add(2);
+        let last = fresh.saturating_add(1);
+        let start = fresh.saturating_add(2);
         self.operation(
             at.label,
             Op::Try {
                 next: start,
-                fail: at.way,
+                fail: at.on_fail,
             },
         )?;
         self.operation(last, Op::Commit { next: at.next })?;
@@ -391,39 +406,39 @@ impl<'p> Plan<'p> {
             Part::CommentCall,
             Place {
                 label: start,
-                next: own,
-                way: FAIL,
+                next: fresh,
+                on_fail: FAIL,
                 ..at
             },
         )?;
         self.point(
             Part::Stay,
             Place {
-                label: own,
-                next: own,
-                way: FAIL,
+                label: fresh,
+                next: fresh,
+                on_fail: FAIL,
                 ..at
             },
         )?;
         self.point(
             Part::Blanks,
             Place {
-                label: own,
+                label: fresh,
                 next: last,
-                way: FAIL,
+                on_fail: FAIL,
                 ..at
             },
         )?;
         Ok(())
     }
 
-    /// Plans a call of `COMMENT`, which is as one in NonAtomic. The labels from `own` on are free.
+    /// Plans a call of `COMMENT`, which is as one in NonAtomic. The labels from `fresh` on are free.
     pub(crate) fn comment_call(
         &mut self,
         program: &Program,
         lasts: &[usize],
         at: Place,
-        own: u32,
+        fresh: u32,
     ) -> Result<(), NotCompiled>
         requires sound { IsSoundProgram program.now }
         requires lasts { AreLast program.now.rows.items lasts.now }
@@ -439,7 +454,7 @@ impl<'p> Plan<'p> {
             mode: Atomicity::NonAtomic,
             ..at
         };
-        self.call(program, lasts, rule, place, own)?;
+        self.call(program, lasts, rule, place, fresh)?;
         Ok(())
     }
 }

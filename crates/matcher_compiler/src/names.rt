@@ -55,6 +55,6 @@ pub(crate) fn last_rows(alloc: Global, program: &Program) -> Result<Vec<usize>, 
 pub fn expected_names_have_own_numbers()
     ensures numbers { (g : Grammar) (classes : Classes) (k : Task) (s : State) (o : Outcome) (place : ℕ)
         → (d : Does g classes k s o) → HaveNumbers g (expected_at place d) }
-    ensures own { (g : Grammar) (n m : Text) → HasNumber g n → HasNumber g m
+    ensures fresh { (g : Grammar) (n m : Text) → HasNumber g n → HasNumber g m
         → number_in g n ≡ number_in g m → n ≡ m }
 {}

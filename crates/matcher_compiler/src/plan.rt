@@ -104,7 +104,7 @@ impl<'p> Plan<'p> {
             → IsLater p self.old self.new) }
         ensures has { OnOk result ((p : Program) (code : CodeLists) (laid : List lay.Point)
             → Meets p self.new code laid
-            → IsPart laid at.rank (task_in p part.entry (mode_of at.mode)) at.label at.next at.way) }
+            → IsPart laid at.rank (task_in p part.entry (mode_of at.mode)) at.label at.next at.on_fail) }
     {
         if at.rank == 0 {
             return Err(NotCompiled::Unsupported);

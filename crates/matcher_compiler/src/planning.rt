@@ -6,7 +6,7 @@ ghost use Rattle.matcher_program.specs.declared.form.Form.TheVariants as form;
 ghost use Rattle.matcher_sets.specs.Modes.{mode_of};
 ghost use Rattle.matcher_compiler.specs.Names.{AreLast};
 ghost use Rattle.matcher_sets.specs.Forms.{IsBoundIn, IsSoundProgram, said};
-ghost use Rattle.matcher_sets.specs.Heads.{AreHeads};
+ghost use Rattle.matcher_sets.specs.FirstSets.{AreFirstSets};
 ghost use Rattle.matcher_compiler.specs.Plans.{AreBound, IsBoundPart, IsLater, IsReady, IsTightIn, LaysAt, LaysPoint, task_in};
 ghost use Rattle.matcher_compiler.specs.declared.points.Point.{Point};
 
@@ -16,7 +16,7 @@ use crate::spans::repeated_ranges;
 use matcher_code::code::Op;
 use matcher_program::form::{Form, Program};
 use matcher_sets::difference::choice_ranges;
-use matcher_sets::heads::Heads;
+use matcher_sets::first_sets::FirstSets;
 use matcher_sets::modes::Atomicity;
 use std::alloc::Global;
 
@@ -52,7 +52,7 @@ fn free_of_demands(demands: &[Demand], start: usize, from: u32) -> u32 {
 
 impl<'p> Plan<'p> {
     /// Plans the end of a text.
-    fn end_of_text(&mut self, program: &Program, at: Place, own: u32) -> Result<(), NotCompiled>
+    fn end_of_text(&mut self, program: &Program, at: Place, fresh: u32) -> Result<(), NotCompiled>
         requires bound { IsBoundIn program.now form.End }
         requires few { length program.now.rows.items < 2 ^ 28 }
         ensures later { OnOk result (IsLater program.now self.old self.new) }
@@ -61,7 +61,7 @@ impl<'p> Plan<'p> {
     {
         match at.mode {
             Atomicity::Atomic => self.bare_end(program, at),
-            Atomicity::NonAtomic | Atomicity::CompoundAtomic => self.end(program, at, own),
+            Atomicity::NonAtomic | Atomicity::CompoundAtomic => self.end(program, at, fresh),
         }
     }
 
@@ -70,13 +70,13 @@ impl<'p> Plan<'p> {
         &mut self,
         alloc: Global,
         program: &Program,
-        heads: &Heads,
+        first_sets: &FirstSets,
         body: &'p Form,
         at: Place,
-        own: u32,
+        fresh: u32,
     ) -> Result<(), NotCompiled>
         requires sound { IsSoundProgram program.now }
-        requires heads { AreHeads program.now heads.now }
+        requires first_sets { AreFirstSets program.now first_sets.now }
         requires bound { IsBoundIn program.now body.now }
         requires tight { IsTightIn program.now at.mode }
         ensures later { OnOk result (IsLater program.now self.old self.new) }
@@ -89,7 +89,7 @@ impl<'p> Plan<'p> {
                 self.span(ranges, at)?;
                 Ok(())
             }
-            None => self.tight_loop(alloc, program, heads, body, at, own),
+            None => self.tight_loop(alloc, program, first_sets, body, at, fresh),
         }
     }
 
@@ -98,13 +98,13 @@ impl<'p> Plan<'p> {
         &mut self,
         alloc: Global,
         program: &Program,
-        heads: &Heads,
+        first_sets: &FirstSets,
         body: &'p Form,
         at: Place,
-        own: u32,
+        fresh: u32,
     ) -> Result<(), NotCompiled>
         requires sound { IsSoundProgram program.now }
-        requires heads { AreHeads program.now heads.now }
+        requires first_sets { AreFirstSets program.now first_sets.now }
         requires bound { IsBoundIn program.now body.now }
         requires ready { IsReady program.now self.old }
         ensures later { OnOk result (IsLater program.now self.old self.new) }
@@ -112,9 +112,9 @@ impl<'p> Plan<'p> {
             (Rep (said program.now body.entry.now))) at) }
     {
         if self.is_tight(at.mode) {
-            self.tight_turns(alloc, program, heads, body, at, own)
+            self.tight_turns(alloc, program, first_sets, body, at, fresh)
         } else {
-            self.repetition(alloc, program, heads, body, at, own)
+            self.repetition(alloc, program, first_sets, body, at, fresh)
         }
     }
 
@@ -168,7 +168,7 @@ impl<'p> Plan<'p> {
         program: &Program,
         body: &'p Form,
         at: Place,
-        own: u32,
+        fresh: u32,
     ) -> Result<(), NotCompiled>
         requires bound { IsBoundIn program.now body.now }
         ensures later { OnOk result (IsLater program.now self.old self.new) }
@@ -176,10 +176,10 @@ impl<'p> Plan<'p> {
             (PosPred (said program.now body.entry.now))) at) }
     {
         let begin = Op::Try {
-            next: own,
-            fail: at.way,
+            next: fresh,
+            fail: at.on_fail,
         };
-        self.lookahead(program, body, at, own, begin, at.next)?;
+        self.lookahead(program, body, at, fresh, begin, at.next)?;
         Ok(())
     }
 
@@ -189,7 +189,7 @@ impl<'p> Plan<'p> {
         program: &Program,
         body: &'p Form,
         at: Place,
-        own: u32,
+        fresh: u32,
     ) -> Result<(), NotCompiled>
         requires bound { IsBoundIn program.now body.now }
         ensures later { OnOk result (IsLater program.now self.old self.new) }
@@ -197,21 +197,21 @@ impl<'p> Plan<'p> {
             (NegPred (said program.now body.entry.now))) at) }
     {
         let begin = Op::Not {
-            next: own,
+            next: fresh,
             fail: at.next,
         };
-        self.lookahead(program, body, at, own, begin, at.way)?;
+        self.lookahead(program, body, at, fresh, begin, at.on_fail)?;
         Ok(())
     }
 
     /// Plans an expression and its repetition, one after the other. A large expression is called by both, so
-    /// that a program grows by a constant for each form. The labels from `own` on are free.
+    /// that a program grows by a constant for each form. The labels from `fresh` on are free.
     fn once_and_turns(
         &mut self,
         program: &Program,
         body: &'p Form,
         at: Place,
-        own: u32,
+        fresh: u32,
     ) -> Result<(), NotCompiled>
         requires bound { IsBoundIn program.now body.now }
         ensures later { OnOk result (IsLater program.now self.old self.new) }
@@ -219,9 +219,9 @@ impl<'p> Plan<'p> {
             (once_or_more (said program.now body.entry.now))) at) }
     {
         if self.sizes.is_small_twice(program, body, at.mode) {
-            self.sequence(program, Part::Form(body), Part::Repetition(body), at, own)
+            self.sequence(program, Part::Form(body), Part::Repetition(body), at, fresh)
         } else {
-            self.called_once_or_more(program, body, at, own)
+            self.called_once_or_more(program, body, at, fresh)
         }
     }
 
@@ -230,15 +230,15 @@ impl<'p> Plan<'p> {
         &mut self,
         alloc: Global,
         program: &Program,
-        heads: &Heads,
+        first_sets: &FirstSets,
         form: &Form,
         left: &'p Form,
         right: &'p Form,
         at: Place,
-        own: u32,
+        fresh: u32,
     ) -> Result<(), NotCompiled>
         requires sound { IsSoundProgram program.now }
-        requires heads { AreHeads program.now heads.now }
+        requires first_sets { AreFirstSets program.now first_sets.now }
         requires bound { IsBoundIn program.now form.now }
         requires left_bound { IsBoundIn program.now left.now }
         requires right_bound { IsBoundIn program.now right.now }
@@ -251,23 +251,23 @@ impl<'p> Plan<'p> {
         let made = choice_ranges(alloc, program, form)?;
         match made {
             Some(ranges) => self.character(program, form, ranges, at),
-            None => self.choice(alloc, program, heads, left, right, at, own),
+            None => self.choice(alloc, program, first_sets, left, right, at, fresh),
         }
     }
 
-    /// Plans an expression. The labels from `own` on are free.
+    /// Plans an expression. The labels from `fresh` on are free.
     fn form(
         &mut self,
         alloc: Global,
         program: &Program,
-        heads: &Heads,
+        first_sets: &FirstSets,
         lasts: &[usize],
         form: &'p Form,
         at: Place,
-        own: u32,
+        fresh: u32,
     ) -> Result<(), NotCompiled>
         requires sound { IsSoundProgram program.now }
-        requires heads { AreHeads program.now heads.now }
+        requires first_sets { AreFirstSets program.now first_sets.now }
         requires lasts { AreLast program.now.rows.items lasts.now }
         requires few { length program.now.rows.items < 2 ^ 28 }
         requires ready { IsReady program.now self.old }
@@ -283,22 +283,24 @@ impl<'p> Plan<'p> {
                 self.one_character(alloc, program, form, at)
             }
             Form::Start => self.start(program, at),
-            Form::End => self.end_of_text(program, at, own),
-            Form::Newline => self.newline(alloc, program, at, own),
-            Form::Call(rule) => self.call(program, lasts, *rule, at, own),
-            Form::PosPred(body) => self.ahead(program, body, at, own),
-            Form::NegPred(body) => self.not_ahead(program, body, at, own),
-            Form::Seq(first, second) => { self.two(alloc, program, heads, first, second, at, own) }
-            Form::Choice(left, right) => {
-                self.alternatives(alloc, program, heads, form, left, right, at, own)
+            Form::End => self.end_of_text(program, at, fresh),
+            Form::Newline => self.newline(alloc, program, at, fresh),
+            Form::Call(rule) => self.call(program, lasts, *rule, at, fresh),
+            Form::PosPred(body) => self.ahead(program, body, at, fresh),
+            Form::NegPred(body) => self.not_ahead(program, body, at, fresh),
+            Form::Seq(first, second) => {
+                self.two(alloc, program, first_sets, first, second, at, fresh)
             }
-            Form::Opt(body) => self.option(alloc, program, heads, body, at, own),
-            Form::Rep(body) => self.turns(alloc, program, heads, body, at, own),
+            Form::Choice(left, right) => {
+                self.alternatives(alloc, program, first_sets, form, left, right, at, fresh)
+            }
+            Form::Opt(body) => self.option(alloc, program, first_sets, body, at, fresh),
+            Form::Rep(body) => self.turns(alloc, program, first_sets, body, at, fresh),
             Form::RepOnce(body) => self.once_or_more(program, body, at),
             Form::Tag(body, tag) => self.tag(program, body, tag.as_str(), at),
             Form::Restore(body) => self.restore(program, body, at),
             Form::Skip(texts) => self.search(alloc, program, texts, at),
-            Form::Push(body) => self.push(program, body, at, own),
+            Form::Push(body) => self.push(program, body, at, fresh),
             Form::PushLiteral(text) => self.push_literal(alloc, program, text.as_str(), at),
             Form::Peek => self.peek(program, at),
             Form::Pop => self.pop(program, at),
@@ -314,14 +316,14 @@ impl<'p> Plan<'p> {
         &mut self,
         alloc: Global,
         program: &'p Program,
-        heads: &Heads,
+        first_sets: &FirstSets,
         lasts: &[usize],
         point: Point<'p>,
         number: usize,
-        own: u32,
+        fresh: u32,
     ) -> Result<(), NotCompiled>
         requires sound { IsSoundProgram program.now }
-        requires heads { AreHeads program.now heads.now }
+        requires first_sets { AreFirstSets program.now first_sets.now }
         requires lasts { AreLast program.now.rows.items lasts.now }
         requires few { length program.now.rows.items < 2 ^ 28 }
         requires ready { IsReady program.now self.old }
@@ -332,27 +334,27 @@ impl<'p> Plan<'p> {
     {
         let at = point.at;
         match point.part {
-            Part::Form(form) => self.form(alloc, program, heads, lasts, form, at, own),
-            Part::OnceOrMore(body) => { self.once_and_turns(program, body, at, own) }
-            Part::Repetition(body) => self.turns(alloc, program, heads, body, at, own),
+            Part::Form(form) => self.form(alloc, program, first_sets, lasts, form, at, fresh),
+            Part::OnceOrMore(body) => { self.once_and_turns(program, body, at, fresh) }
+            Part::Repetition(body) => self.turns(alloc, program, first_sets, body, at, fresh),
             Part::Body(rule) => match program.rows.get(rule) {
                 Some(row) => {
                     let inside = Place {
                         around: (number & 0xffff_ffff) as u32,
                         ..at
                     };
-                    self.form(alloc, program, heads, lasts, &row.body, inside, own)
+                    self.form(alloc, program, first_sets, lasts, &row.body, inside, fresh)
                 }
                 None => Err(NotCompiled::Unsupported),
             },
-            Part::Rule(rule) => self.call(program, lasts, rule, at, own),
-            Part::Gap => self.gap(program, at, own),
-            Part::Skipped => self.plan_skipping(alloc, program, heads, at, own),
-            Part::Blanks => self.blanks(alloc, program, heads, at, own),
-            Part::BlankCall => self.blank_call(program, lasts, at, own),
-            Part::Comments => self.comments(alloc, program, heads, at, own),
-            Part::Comment => self.comment(program, at, own),
-            Part::CommentCall => self.comment_call(program, lasts, at, own),
+            Part::Rule(rule) => self.call(program, lasts, rule, at, fresh),
+            Part::Gap => self.gap(program, at, fresh),
+            Part::Skipped => self.plan_skipping(alloc, program, first_sets, at, fresh),
+            Part::Blanks => self.blanks(alloc, program, first_sets, at, fresh),
+            Part::BlankCall => self.blank_call(program, lasts, at, fresh),
+            Part::Comments => self.comments(alloc, program, first_sets, at, fresh),
+            Part::Comment => self.comment(program, at, fresh),
+            Part::CommentCall => self.comment_call(program, lasts, at, fresh),
             Part::Stay => self.stay_between(program, at),
         }
     }
@@ -362,11 +364,11 @@ impl<'p> Plan<'p> {
         &mut self,
         alloc: Global,
         program: &'p Program,
-        heads: &Heads,
+        first_sets: &FirstSets,
         lasts: &[usize],
     ) -> Result<(), NotCompiled>
         requires sound { IsSoundProgram program.now }
-        requires heads { AreHeads program.now heads.now }
+        requires first_sets { AreFirstSets program.now first_sets.now }
         requires lasts { AreLast program.now.rows.items lasts.now }
         requires few { length program.now.rows.items < 2 ^ 28 }
         requires ready { IsReady program.now self.old }
@@ -375,20 +377,20 @@ impl<'p> Plan<'p> {
         ensures lays { OnOk result ((i : ℕ) (d : Point) → i < length self.new.points.items
             → LaysPoint program.entry.now self.new (get_or self.new.points.items i d)) }
     {
-        let mut own = first_free(program.rows.len());
+        let mut fresh = first_free(program.rows.len());
         for number in 0..usize::MAX {
             let point = match self.points.get(number) {
                 Some(point) => *point,
                 None => return Ok(()),
             };
-            if own >= TOO_MANY_LABELS {
+            if fresh >= TOO_MANY_LABELS {
                 return Err(NotCompiled::Unsupported);
             }
             let points = self.points.len();
             let demands = self.demands.len();
-            self.part(alloc, program, heads, lasts, point, number, own)?;
-            own = free_of_points(&self.points, points, own);
-            own = free_of_demands(&self.demands, demands, own);
+            self.part(alloc, program, first_sets, lasts, point, number, fresh)?;
+            fresh = free_of_points(&self.points, points, fresh);
+            fresh = free_of_demands(&self.demands, demands, fresh);
         }
         Err(NotCompiled::Unsupported)
     }

@@ -40,15 +40,15 @@ pub(crate) const NO_CALL: u32 = 0xffff_ffff;
 /// The rank of what is no part.
 pub(crate) const TOP_RANK: u32 = 0xffff_ffff;
 
-/// A mode and three labels: a task begins at `label`, a success goes on at `next`, a failure at `way`. Its
-/// parts have lower ranks. `around` is the number of the point of the innermost body around, of a rule that
-/// is called in place or not.
+/// A mode and three labels: a task begins at `label`, a success goes on at `next`, a failure at `on_fail`.
+/// Its parts have lower ranks. `around` is the number of the point of the innermost body around, of a rule
+/// that is called in place or not.
 #[derive(Clone, Copy)]
 pub struct Place {
     pub mode: Atomicity,
     pub label: u32,
     pub next: u32,
-    pub way: u32,
+    pub on_fail: u32,
     pub rank: u32,
     pub around: u32,
 }
@@ -71,7 +71,7 @@ pub struct Branch {
     pub first: u32,
     pub second: u32,
     pub next: u32,
-    pub way: u32,
+    pub on_fail: u32,
 }
 
 /// A fact about a program.

@@ -25,32 +25,32 @@ impl<'p> Plan<'p> {
         }
     }
 
-    /// Plans the code of an operand, which begins at `own`, and the turns of its repetition, which call it.
-    /// The labels from `own` on are free.
+    /// Plans the code of an operand, which begins at `fresh`, and the turns of its repetition, which call it.
+    /// The labels from `fresh` on are free.
     fn called_turns(
         &mut self,
         program: &Program,
         body: &'p Form,
         at: Place,
-        own: u32,
+        fresh: u32,
     ) -> Result<(), NotCompiled>
         requires bound { IsBoundIn program.now body.now }
         requires next { 0 < at.next }
         ensures later { OnOk result (IsLater program.now self.old self.new) }
         ensures turns { OnOk result ((code : CodeLists) (laid : List lay.Point)
             → Meets program.now self.new code laid → CallsTurns code laid at.rank
-            (mode_of at.mode) (said program.now body.entry.now) own at.label at.next) }
+            (mode_of at.mode) (said program.now body.entry.now) fresh at.label at.next) }
     {
-        let last = own.saturating_add(1);
-        let end = own.saturating_add(2);
-        let gap = own.saturating_add(3);
+        let last = fresh.saturating_add(1);
+        let end = fresh.saturating_add(2);
+        let gap = fresh.saturating_add(3);
         let again = self.behind_gap(at, gap);
         self.point(
             Part::Form(body),
             Place {
-                label: own,
+                label: fresh,
                 next: last,
-                way: FAIL,
+                on_fail: FAIL,
                 ..at
             },
         )?;
@@ -67,14 +67,14 @@ impl<'p> Plan<'p> {
             Place {
                 label: gap,
                 next: again,
-                way: FAIL,
+                on_fail: FAIL,
                 ..at
             },
         )?;
         self.operation(
             again,
             Op::Sub {
-                to: own,
+                to: fresh,
                 next: end,
                 fail: FAIL,
             },
@@ -83,35 +83,36 @@ impl<'p> Plan<'p> {
         Ok(())
     }
 
-    /// Plans an expression and its repetition, which call the expression. The labels from `own` on are free.
+    /// Plans an expression and its repetition, which call the expression. The labels from `fresh` on are
+    /// free.
     pub(crate) fn called_once_or_more(
         &mut self,
         program: &Program,
         body: &'p Form,
         at: Place,
-        own: u32,
+        fresh: u32,
     ) -> Result<(), NotCompiled>
         requires bound { IsBoundIn program.now body.now }
         ensures later { OnOk result (IsLater program.now self.old self.new) }
         ensures lays { OnOk result (LaysAt program.now self.new
             (Run (mode_of at.mode) (once_or_more (said program.now body.entry.now))) at) }
     {
-        let start = own.saturating_add(5);
-        let turn = own.saturating_add(6);
-        let end = own.saturating_add(7);
-        let gap = own.saturating_add(8);
+        let start = fresh.saturating_add(5);
+        let turn = fresh.saturating_add(6);
+        let end = fresh.saturating_add(7);
+        let gap = fresh.saturating_add(8);
         let again = self.behind_gap(at, gap);
         self.operation(
             at.label,
             Op::Try {
                 next: start,
-                fail: at.way,
+                fail: at.on_fail,
             },
         )?;
         self.operation(
             start,
             Op::Sub {
-                to: own,
+                to: fresh,
                 next: gap,
                 fail: FAIL,
             },
@@ -121,14 +122,14 @@ impl<'p> Plan<'p> {
             Place {
                 label: gap,
                 next: again,
-                way: FAIL,
+                on_fail: FAIL,
                 ..at
             },
         )?;
         self.operation(
             again,
             Op::Sub {
-                to: own,
+                to: fresh,
                 next: turn,
                 fail: end,
             },
@@ -139,7 +140,7 @@ impl<'p> Plan<'p> {
             next: end,
             ..at
         };
-        self.called_turns(program, body, turns, own)?;
+        self.called_turns(program, body, turns, fresh)?;
         Ok(())
     }
 }

@@ -5,47 +5,47 @@ ghost use Rattle.base_language.specs.Language.Meaning.{Run, skipped};
 ghost use Rattle.base_language.specs.Language.State.{Between, NonAtomicMode};
 ghost use Rattle.matcher_sets.specs.Modes.{mode_of};
 ghost use Rattle.matcher_sets.specs.Forms.{IsBoundIn, IsSoundProgram, grammar_in, said};
-ghost use Rattle.matcher_sets.specs.Heads.{AreHeads};
+ghost use Rattle.matcher_sets.specs.FirstSets.{AreFirstSets};
 ghost use Rattle.matcher_compiler.specs.Plans.{FailsWithout, IsBlankSet, IsLater, IsReady, IsTightIn, LaysAt, TakesNoneIn, one_comment};
 
-use crate::firsts::spare_head;
+use crate::firsts::spare_first_set;
 use crate::forms::FAIL;
-use crate::gaps::comment_head;
+use crate::gaps::comment_first_set;
 use crate::plan::{Plan, Skips};
 use crate::points::{NotCompiled, Part, Place};
 use crate::spans::span_ranges;
 use matcher_code::code::Op;
 use matcher_program::form::{Form, Program};
 use matcher_sets::difference::{MOST_RANGES, choice_ranges, refused_ranges};
-use matcher_sets::heads::{Head, Heads};
+use matcher_sets::first_sets::{FirstSet, FirstSets};
 use std::alloc::Global;
 
 impl<'p> Plan<'p> {
-    /// Plans blanks of a set, with a test of the next character, and then comments. The labels from `own` on
-    /// are free.
+    /// Plans blanks of a set, with a test of the next character, and then comments. The labels from `fresh`
+    /// on are free.
     fn blanks_before(
         &mut self,
         program: &Program,
         set: u32,
-        head: Head,
+        first_set: FirstSet,
         at: Place,
-        own: u32,
+        fresh: u32,
     ) -> Result<(), NotCompiled>
         requires set { IsBlankSet program.now self.old.sets set }
-        requires fails { FailsWithout program.now (Run Between one_comment) head }
-        requires way { at.way ≡ 0 }
+        requires fails { FailsWithout program.now (Run Between one_comment) first_set }
+        requires on_fail { at.on_fail ≡ 0 }
         ensures later { OnOk result (IsLater program.now self.old self.new) }
         ensures lays { OnOk result (LaysAt program.now self.new (Run Between skipped) at) }
     {
         if at.next == FAIL {
             return Err(NotCompiled::Unsupported);
         }
-        let Head {
+        let FirstSet {
             ranges,
             empty: _,
             noted,
-        } = head;
-        let note = own.saturating_add(1);
+        } = first_set;
+        let note = fresh.saturating_add(1);
         let miss = self.miss(noted, at.next, note)?;
         let stops = self.set(ranges)?;
         self.operation(
@@ -54,64 +54,65 @@ impl<'p> Plan<'p> {
                 set,
                 stops,
                 next: miss,
-                slow: own,
+                slow: fresh,
             },
         )?;
         self.point(
             Part::Comments,
             Place {
-                label: own,
-                way: FAIL,
+                label: fresh,
+                on_fail: FAIL,
                 ..at
             },
         )?;
         Ok(())
     }
 
-    /// Plans blanks of a set, and then comments. The labels from `own` on are free.
+    /// Plans blanks of a set, and then comments. The labels from `fresh` on are free.
     pub(crate) fn blanks_of_set(
         &mut self,
         alloc: Global,
         program: &Program,
-        heads: &Heads,
+        first_sets: &FirstSets,
         set: u32,
         at: Place,
-        own: u32,
+        fresh: u32,
     ) -> Result<(), NotCompiled>
         requires sound { IsSoundProgram program.now }
-        requires heads { AreHeads program.now heads.now }
+        requires first_sets { AreFirstSets program.now first_sets.now }
         requires set { IsBlankSet program.now self.old.sets set }
-        requires way { at.way ≡ 0 }
+        requires on_fail { at.on_fail ≡ 0 }
         ensures later { OnOk result (IsLater program.now self.old self.new) }
         ensures lays { OnOk result (LaysAt program.now self.new (Run Between skipped) at) }
     {
-        let made = comment_head(alloc, program, heads)?;
+        let made = comment_first_set(alloc, program, first_sets)?;
         match made {
-            Some(head) => self.blanks_before(program, set, head, at, own),
-            None => self.blanks_and_comments(program, at, own),
+            Some(first_set) => self.blanks_before(program, set, first_set, at, fresh),
+            None => self.blanks_and_comments(program, at, fresh),
         }
     }
 
     /// Plans a sequence with blanks of a set between its parts, and a test of the next character: where no
-    /// character of a head is next, the second part takes nothing. A failure goes on as the last slot says.
-    /// The labels from `own` on are free.
+    /// character of a FIRST set is next, the second part takes nothing. A failure goes on as the last slot
+    /// says. The labels from `fresh` on are free.
     fn gap_sequence(
         &mut self,
         program: &Program,
         set: u32,
-        head: Head,
+        first_set: FirstSet,
         first: &'p Form,
         second: &'p Form,
         at: Place,
-        own: u32,
+        fresh: u32,
     ) -> Result<(), NotCompiled>
         requires first_bound { IsBoundIn program.now first.now }
         requires second_bound { IsBoundIn program.now second.now }
-        requires way { at.way ≡ 0 }
+        requires on_fail { at.on_fail ≡ 0 }
         requires mode { mode_of at.mode ≡ NonAtomicMode }
         requires none { rule_of (grammar_in program.now) comment ≡ None }
         requires set { IsBlankSet program.now self.old.sets set }
-        requires takes { TakesNoneIn program.now (Run (mode_of at.mode) (said program.now second.now)) head }
+        requires takes { TakesNoneIn program.now (Run (mode_of at.mode)
+            (said program.now second.now)) first_set }
         ensures later { OnOk result (IsLater program.now self.old self.new) }
         ensures lays { OnOk result (LaysAt program.now self.new (Run (mode_of at.mode)
             (Seq (said program.now first.entry.now) (said program.now second.entry.now))) at) }
@@ -119,17 +120,17 @@ impl<'p> Plan<'p> {
         if at.next == FAIL {
             return Err(NotCompiled::Unsupported);
         }
-        let Head {
+        let FirstSet {
             ranges,
             empty: _,
             noted,
-        } = head;
-        let begin = own.saturating_add(1);
-        let note = own.saturating_add(2);
+        } = first_set;
+        let begin = fresh.saturating_add(1);
+        let note = fresh.saturating_add(2);
         let miss = self.miss(noted, at.next, note)?;
         let stops = self.set(ranges)?;
         self.operation(
-            own,
+            fresh,
             Op::Gap {
                 set,
                 stops,
@@ -137,7 +138,7 @@ impl<'p> Plan<'p> {
                 slow: begin,
             },
         )?;
-        self.point(Part::Form(first), Place { next: own, ..at })?;
+        self.point(Part::Form(first), Place { next: fresh, ..at })?;
         self.point(Part::Form(second), Place { label: begin, ..at })?;
         Ok(())
     }
@@ -151,7 +152,7 @@ impl<'p> Plan<'p> {
         first: &'p Form,
         second: &'p Form,
         at: Place,
-        own: u32,
+        fresh: u32,
     ) -> Result<(), NotCompiled>
         requires first_bound { IsBoundIn program.now first.now }
         requires second_bound { IsBoundIn program.now second.now }
@@ -163,17 +164,17 @@ impl<'p> Plan<'p> {
         let refused = refused_ranges(alloc, program, first)?;
         let others = match refused {
             Some(others) => others,
-            None => return self.both(program, first, second, at, own),
+            None => return self.both(program, first, second, at, fresh),
         };
         if others.len() > MOST_RANGES {
-            return self.both(program, first, second, at, own);
+            return self.both(program, first, second, at, fresh);
         }
         let made = choice_ranges(alloc, program, second)?;
         match made {
             Some(ranges) => {
                 self.other_character(alloc, program, first, second, &others, ranges, at)
             }
-            None => self.both(program, first, second, at, own),
+            None => self.both(program, first, second, at, fresh),
         }
     }
 
@@ -182,14 +183,14 @@ impl<'p> Plan<'p> {
         &mut self,
         alloc: Global,
         program: &Program,
-        heads: &Heads,
+        first_sets: &FirstSets,
         first: &'p Form,
         second: &'p Form,
         at: Place,
-        own: u32,
+        fresh: u32,
     ) -> Result<(), NotCompiled>
         requires sound { IsSoundProgram program.now }
-        requires heads { AreHeads program.now heads.now }
+        requires first_sets { AreFirstSets program.now first_sets.now }
         requires first_bound { IsBoundIn program.now first.now }
         requires second_bound { IsBoundIn program.now second.now }
         requires tight { IsTightIn program.now at.mode }
@@ -197,15 +198,15 @@ impl<'p> Plan<'p> {
         ensures lays { OnOk result (LaysAt program.now self.new (Run (mode_of at.mode)
             (Seq (said program.now first.entry.now) (said program.now second.entry.now))) at) }
     {
-        if at.way != FAIL {
-            return self.plain_both(alloc, program, first, second, at, own);
+        if at.on_fail != FAIL {
+            return self.plain_both(alloc, program, first, second, at, fresh);
         }
         let made = span_ranges(alloc, program, first, at.mode)?;
         match made {
             Some(ranges) => {
-                self.span_both(alloc, program, heads, ranges, first, second, at, own)
+                self.span_both(alloc, program, first_sets, ranges, first, second, at, fresh)
             }
-            None => self.plain_both(alloc, program, first, second, at, own),
+            None => self.plain_both(alloc, program, first, second, at, fresh),
         }
     }
 
@@ -214,15 +215,15 @@ impl<'p> Plan<'p> {
         &mut self,
         alloc: Global,
         program: &Program,
-        heads: &Heads,
+        first_sets: &FirstSets,
         set: u32,
         first: &'p Form,
         second: &'p Form,
         at: Place,
-        own: u32,
+        fresh: u32,
     ) -> Result<(), NotCompiled>
         requires sound { IsSoundProgram program.now }
-        requires heads { AreHeads program.now heads.now }
+        requires first_sets { AreFirstSets program.now first_sets.now }
         requires first_bound { IsBoundIn program.now first.now }
         requires second_bound { IsBoundIn program.now second.now }
         requires mode { mode_of at.mode ≡ NonAtomicMode }
@@ -232,13 +233,13 @@ impl<'p> Plan<'p> {
         ensures lays { OnOk result (LaysAt program.now self.new (Run (mode_of at.mode)
             (Seq (said program.now first.entry.now) (said program.now second.entry.now))) at) }
     {
-        if at.way != FAIL {
-            return self.both(program, first, second, at, own);
+        if at.on_fail != FAIL {
+            return self.both(program, first, second, at, fresh);
         }
-        let made = spare_head(alloc, program, heads, second, at.mode)?;
+        let made = spare_first_set(alloc, program, first_sets, second, at.mode)?;
         match made {
-            Some(head) => self.gap_sequence(program, set, head, first, second, at, own),
-            None => self.both(program, first, second, at, own),
+            Some(first_set) => self.gap_sequence(program, set, first_set, first, second, at, fresh),
+            None => self.both(program, first, second, at, fresh),
         }
     }
 
@@ -247,14 +248,14 @@ impl<'p> Plan<'p> {
         &mut self,
         alloc: Global,
         program: &Program,
-        heads: &Heads,
+        first_sets: &FirstSets,
         first: &'p Form,
         second: &'p Form,
         at: Place,
-        own: u32,
+        fresh: u32,
     ) -> Result<(), NotCompiled>
         requires sound { IsSoundProgram program.now }
-        requires heads { AreHeads program.now heads.now }
+        requires first_sets { AreFirstSets program.now first_sets.now }
         requires first_bound { IsBoundIn program.now first.now }
         requires second_bound { IsBoundIn program.now second.now }
         requires ready { IsReady program.now self.old }
@@ -265,9 +266,9 @@ impl<'p> Plan<'p> {
     {
         match self.skips {
             Skips::Blanks(set) => {
-                self.blank_both(alloc, program, heads, set, first, second, at, own)
+                self.blank_both(alloc, program, first_sets, set, first, second, at, fresh)
             }
-            _ => self.both(program, first, second, at, own),
+            _ => self.both(program, first, second, at, fresh),
         }
     }
 
@@ -276,14 +277,14 @@ impl<'p> Plan<'p> {
         &mut self,
         alloc: Global,
         program: &Program,
-        heads: &Heads,
+        first_sets: &FirstSets,
         first: &'p Form,
         second: &'p Form,
         at: Place,
-        own: u32,
+        fresh: u32,
     ) -> Result<(), NotCompiled>
         requires sound { IsSoundProgram program.now }
-        requires heads { AreHeads program.now heads.now }
+        requires first_sets { AreFirstSets program.now first_sets.now }
         requires first_bound { IsBoundIn program.now first.now }
         requires second_bound { IsBoundIn program.now second.now }
         requires ready { IsReady program.now self.old }
@@ -292,9 +293,9 @@ impl<'p> Plan<'p> {
             (Seq (said program.now first.entry.now) (said program.now second.entry.now))) at) }
     {
         if self.is_tight(at.mode) {
-            self.tight_both(alloc, program, heads, first, second, at, own)
+            self.tight_both(alloc, program, first_sets, first, second, at, fresh)
         } else {
-            self.loose_both(alloc, program, heads, first, second, at, own)
+            self.loose_both(alloc, program, first_sets, first, second, at, fresh)
         }
     }
 
@@ -305,7 +306,7 @@ impl<'p> Plan<'p> {
         first: &'p Form,
         second: &'p Form,
         at: Place,
-        own: u32,
+        fresh: u32,
     ) -> Result<(), NotCompiled>
         requires first_bound { IsBoundIn program.now first.now }
         requires second_bound { IsBoundIn program.now second.now }
@@ -313,7 +314,7 @@ impl<'p> Plan<'p> {
         ensures lays { OnOk result (LaysAt program.now self.new (Run (mode_of at.mode)
             (Seq (said program.now first.entry.now) (said program.now second.entry.now))) at) }
     {
-        self.sequence(program, Part::Form(first), Part::Form(second), at, own)?;
+        self.sequence(program, Part::Form(first), Part::Form(second), at, fresh)?;
         Ok(())
     }
 }

@@ -3,7 +3,7 @@ ghost use Rattle.std.specs.Prelude.{IfOk, IfSome, OnOk};
 ghost use Rattle.base_language.specs.Language.Expression.{Choice, NegPred, Opt, Rep, Seq};
 ghost use Rattle.base_language.specs.Language.Meaning.{Run};
 ghost use Rattle.matcher_sets.specs.Forms.{IsBoundIn, IsSoundProgram, said};
-ghost use Rattle.matcher_sets.specs.Heads.{AreHeads};
+ghost use Rattle.matcher_sets.specs.FirstSets.{AreFirstSets};
 ghost use Rattle.matcher_sets.specs.Modes.{mode_of};
 ghost use Rattle.matcher_compiler.specs.Plans.{FailsBefore, IsLater, IsTightIn, LaysAt, TakesOneIn};
 
@@ -14,34 +14,34 @@ use matcher_code::code::Op;
 use matcher_code::ranges::Ranges;
 use matcher_program::form::{Form, Program};
 use matcher_sets::difference::{MOST_RANGES, choice_ranges, outside_ranges};
-use matcher_sets::heads::{Heads, head_of};
+use matcher_sets::first_sets::{FirstSets, first_set_of};
 use matcher_sets::modes::Atomicity;
 use std::alloc::Global;
 
 /// Returns the characters of some ranges before which a form fails at once, if these are known.
-fn outside_head(
+fn outside_first_set(
     alloc: Global,
     program: &Program,
-    heads: &Heads,
+    first_sets: &FirstSets,
     form: &Form,
     ranges: Ranges,
     mode: Atomicity,
 ) -> Result<Option<Ranges>, NotCompiled>
     requires sound { IsSoundProgram program.now }
-    requires heads { AreHeads program.now heads.now }
+    requires first_sets { AreFirstSets program.now first_sets.now }
     requires bound { IsBoundIn program.now form.now }
     ensures { IfOk result (λ made. IfSome made (λ rest. FailsBefore program.now
         (Run (mode_of mode) (said program.now form.now)) ranges.items rest.items)) }
 {
-    let known = head_of(alloc, program, heads, form, mode)?;
-    let head = match known {
-        Some(head) => head,
+    let known = first_set_of(alloc, program, first_sets, form, mode)?;
+    let first_set = match known {
+        Some(first_set) => first_set,
         None => return Ok(None),
     };
-    if head.empty || head.noted || head.ranges.len() > MOST_RANGES {
+    if first_set.empty || first_set.noted || first_set.ranges.len() > MOST_RANGES {
         return Ok(None);
     }
-    let rest = outside_ranges(alloc, ranges, &head.ranges)?;
+    let rest = outside_ranges(alloc, ranges, &first_set.ranges)?;
     Ok(Some(rest))
 }
 
@@ -49,13 +49,13 @@ fn outside_head(
 fn unstopped_ranges(
     alloc: Global,
     program: &Program,
-    heads: &Heads,
+    first_sets: &FirstSets,
     stop: &Form,
     form: &Form,
     mode: Atomicity,
 ) -> Result<Option<Ranges>, NotCompiled>
     requires sound { IsSoundProgram program.now }
-    requires heads { AreHeads program.now heads.now }
+    requires first_sets { AreFirstSets program.now first_sets.now }
     requires stop_bound { IsBoundIn program.now stop.now }
     requires bound { IsBoundIn program.now form.now }
     requires tight { IsTightIn program.now mode }
@@ -66,7 +66,7 @@ fn unstopped_ranges(
 {
     let made = choice_ranges(alloc, program, form)?;
     match made {
-        Some(ranges) => outside_head(alloc, program, heads, stop, ranges, mode),
+        Some(ranges) => outside_first_set(alloc, program, first_sets, stop, ranges, mode),
         None => Ok(None),
     }
 }
@@ -75,13 +75,13 @@ fn unstopped_ranges(
 fn sequence_ranges(
     alloc: Global,
     program: &Program,
-    heads: &Heads,
+    first_sets: &FirstSets,
     first: &Form,
     second: &Form,
     mode: Atomicity,
 ) -> Result<Option<Ranges>, NotCompiled>
     requires sound { IsSoundProgram program.now }
-    requires heads { AreHeads program.now heads.now }
+    requires first_sets { AreFirstSets program.now first_sets.now }
     requires first_bound { IsBoundIn program.now first.now }
     requires second_bound { IsBoundIn program.now second.now }
     requires tight { IsTightIn program.now mode }
@@ -89,8 +89,8 @@ fn sequence_ranges(
         (Seq (said program.now first.now) (said program.now second.now))) ranges.items)) }
 {
     match first {
-        Form::NegPred(stop) => unstopped_ranges(alloc, program, heads, stop, second, mode),
-        Form::Opt(body) => unstopped_ranges(alloc, program, heads, body, second, mode),
+        Form::NegPred(stop) => unstopped_ranges(alloc, program, first_sets, stop, second, mode),
+        Form::Opt(body) => unstopped_ranges(alloc, program, first_sets, body, second, mode),
         _ => Ok(None),
     }
 }
@@ -99,19 +99,21 @@ fn sequence_ranges(
 fn alternative_ranges(
     alloc: Global,
     program: &Program,
-    heads: &Heads,
+    first_sets: &FirstSets,
     form: &Form,
     mode: Atomicity,
 ) -> Result<Option<Ranges>, NotCompiled>
     requires sound { IsSoundProgram program.now }
-    requires heads { AreHeads program.now heads.now }
+    requires first_sets { AreFirstSets program.now first_sets.now }
     requires bound { IsBoundIn program.now form.now }
     requires tight { IsTightIn program.now mode }
     ensures { IfOk result (λ made. IfSome made (λ ranges. TakesOneIn program.now
         (Run (mode_of mode) (said program.now form.now)) ranges.items)) }
 {
     match form {
-        Form::Seq(first, second) => { sequence_ranges(alloc, program, heads, first, second, mode) }
+        Form::Seq(first, second) => {
+            sequence_ranges(alloc, program, first_sets, first, second, mode)
+        }
         _ => Ok(None),
     }
 }
@@ -121,22 +123,22 @@ fn alternative_ranges(
 fn second_ranges(
     alloc: Global,
     program: &Program,
-    heads: &Heads,
+    first_sets: &FirstSets,
     left: &Form,
     right: &Form,
     mode: Atomicity,
 ) -> Result<Option<Ranges>, NotCompiled>
     requires sound { IsSoundProgram program.now }
-    requires heads { AreHeads program.now heads.now }
+    requires first_sets { AreFirstSets program.now first_sets.now }
     requires left_bound { IsBoundIn program.now left.now }
     requires right_bound { IsBoundIn program.now right.now }
     requires tight { IsTightIn program.now mode }
     ensures { IfOk result (λ made. IfSome made (λ ranges. TakesOneIn program.now (Run (mode_of mode)
         (Choice (said program.now left.now) (said program.now right.now))) ranges.items)) }
 {
-    let made = alternative_ranges(alloc, program, heads, right, mode)?;
+    let made = alternative_ranges(alloc, program, first_sets, right, mode)?;
     match made {
-        Some(ranges) => outside_head(alloc, program, heads, left, ranges, mode),
+        Some(ranges) => outside_first_set(alloc, program, first_sets, left, ranges, mode),
         None => Ok(None),
     }
 }
@@ -145,23 +147,23 @@ fn second_ranges(
 fn either_ranges(
     alloc: Global,
     program: &Program,
-    heads: &Heads,
+    first_sets: &FirstSets,
     left: &Form,
     right: &Form,
     mode: Atomicity,
 ) -> Result<Option<Ranges>, NotCompiled>
     requires sound { IsSoundProgram program.now }
-    requires heads { AreHeads program.now heads.now }
+    requires first_sets { AreFirstSets program.now first_sets.now }
     requires left_bound { IsBoundIn program.now left.now }
     requires right_bound { IsBoundIn program.now right.now }
     requires tight { IsTightIn program.now mode }
     ensures { IfOk result (λ made. IfSome made (λ ranges. TakesOneIn program.now (Run (mode_of mode)
         (Choice (said program.now left.now) (said program.now right.now))) ranges.items)) }
 {
-    let made = alternative_ranges(alloc, program, heads, left, mode)?;
+    let made = alternative_ranges(alloc, program, first_sets, left, mode)?;
     match made {
         Some(ranges) => Ok(Some(ranges)),
-        None => second_ranges(alloc, program, heads, left, right, mode),
+        None => second_ranges(alloc, program, first_sets, left, right, mode),
     }
 }
 
@@ -169,33 +171,33 @@ fn either_ranges(
 fn single_ranges(
     alloc: Global,
     program: &Program,
-    heads: &Heads,
+    first_sets: &FirstSets,
     form: &Form,
     mode: Atomicity,
 ) -> Result<Option<Ranges>, NotCompiled>
     requires sound { IsSoundProgram program.now }
-    requires heads { AreHeads program.now heads.now }
+    requires first_sets { AreFirstSets program.now first_sets.now }
     requires bound { IsBoundIn program.now form.now }
     requires tight { IsTightIn program.now mode }
     ensures { IfOk result (λ made. IfSome made (λ ranges. TakesOneIn program.now
         (Run (mode_of mode) (said program.now form.now)) ranges.items)) }
 {
     match form {
-        Form::Choice(left, right) => either_ranges(alloc, program, heads, left, right, mode),
-        _ => alternative_ranges(alloc, program, heads, form, mode),
+        Form::Choice(left, right) => either_ranges(alloc, program, first_sets, left, right, mode),
+        _ => alternative_ranges(alloc, program, first_sets, form, mode),
     }
 }
 
 impl<'p> Plan<'p> {
     /// Plans a repetition where nothing is skipped, and whose body takes some characters alone. The label
-    /// `own` is free.
+    /// `fresh` is free.
     fn shortened_repetition(
         &mut self,
         program: &Program,
         body: &'p Form,
         ranges: Ranges,
         at: Place,
-        own: u32,
+        fresh: u32,
     ) -> Result<(), NotCompiled>
         requires bound { IsBoundIn program.now body.now }
         requires tight { IsTightIn program.now at.mode }
@@ -210,40 +212,40 @@ impl<'p> Plan<'p> {
         }
         self.demand(Demand::GoesOn { label: at.label })?;
         let set = self.set(ranges)?;
-        self.operation(at.label, Op::All { set, next: own })?;
+        self.operation(at.label, Op::All { set, next: fresh })?;
         self.point(
             Part::Form(body),
             Place {
-                label: own,
+                label: fresh,
                 next: at.label,
-                way: at.next,
+                on_fail: at.next,
                 ..at
             },
         )?;
         Ok(())
     }
 
-    /// Plans a repetition where nothing is skipped, by its turns. The label `own` is free.
+    /// Plans a repetition where nothing is skipped, by its turns. The label `fresh` is free.
     pub(crate) fn tight_loop(
         &mut self,
         alloc: Global,
         program: &Program,
-        heads: &Heads,
+        first_sets: &FirstSets,
         body: &'p Form,
         at: Place,
-        own: u32,
+        fresh: u32,
     ) -> Result<(), NotCompiled>
         requires sound { IsSoundProgram program.now }
-        requires heads { AreHeads program.now heads.now }
+        requires first_sets { AreFirstSets program.now first_sets.now }
         requires bound { IsBoundIn program.now body.now }
         requires tight { IsTightIn program.now at.mode }
         ensures later { OnOk result (IsLater program.now self.old self.new) }
         ensures lays { OnOk result (LaysAt program.now self.new (Run (mode_of at.mode)
             (Rep (said program.now body.entry.now))) at) }
     {
-        let made = single_ranges(alloc, program, heads, body, at.mode)?;
+        let made = single_ranges(alloc, program, first_sets, body, at.mode)?;
         match made {
-            Some(ranges) => self.shortened_repetition(program, body, ranges, at, own),
+            Some(ranges) => self.shortened_repetition(program, body, ranges, at, fresh),
             None => self.tight_repetition(program, body, at),
         }
     }

@@ -6,11 +6,11 @@ ghost use Rattle.base_language.specs.Language.Meaning.{Run, Task};
 ghost use Rattle.base_language.specs.Language.State.{Mode};
 ghost use Rattle.matcher_program.specs.declared.form.Program.{Program};
 ghost use Rattle.matcher_sets.specs.Forms.{IsBoundIn, IsSoundProgram, said};
-ghost use Rattle.matcher_sets.specs.Heads.{AreHeads};
+ghost use Rattle.matcher_sets.specs.FirstSets.{AreFirstSets};
 ghost use Rattle.matcher_sets.specs.Modes.{mode_of};
 ghost use Rattle.matcher_compiler.specs.Plans.{IsLater, IsTightIn, LaysAt, TakesNoneIn, TakesSpanIn};
 
-use crate::firsts::spare_head;
+use crate::firsts::spare_first_set;
 use crate::forms::FAIL;
 use crate::plan::Plan;
 use crate::points::{NotCompiled, Part, Place};
@@ -19,7 +19,7 @@ use matcher_code::ranges::Ranges;
 use matcher_program::form::{Form, Program};
 use matcher_sets::characters::character_ranges;
 use matcher_sets::difference::{MOST_RANGES, choice_ranges, outside_ranges, refused_ranges};
-use matcher_sets::heads::{Head, Heads};
+use matcher_sets::first_sets::{FirstSet, FirstSets};
 use matcher_sets::modes::Atomicity;
 use matcher_sets::texts::{all_characters, single_characters};
 use std::alloc::Global;
@@ -150,21 +150,22 @@ impl<'p> Plan<'p> {
         Ok(())
     }
 
-    /// Plans a sequence of a span and a form that takes nothing where no character of a head is next. A
-    /// failure goes on as the last slot says. The labels from `own` on are free.
+    /// Plans a sequence of a span and a form that takes nothing where no character of a FIRST set is next. A
+    /// failure goes on as the last slot says. The labels from `fresh` on are free.
     fn span_sequence(
         &mut self,
         program: &Program,
         ranges: Ranges,
-        head: Head,
+        first_set: FirstSet,
         second: &'p Form,
         at: Place,
-        own: u32,
+        fresh: u32,
     ) -> Result<(), NotCompiled>
         requires bound { IsBoundIn program.now second.now }
-        requires way { at.way ≡ 0 }
+        requires on_fail { at.on_fail ≡ 0 }
         requires tight { IsTightIn program.now at.mode }
-        requires takes { TakesNoneIn program.now (Run (mode_of at.mode) (said program.now second.now)) head }
+        requires takes { TakesNoneIn program.now (Run (mode_of at.mode)
+            (said program.now second.now)) first_set }
         ensures later { OnOk result (IsLater program.now self.old self.new) }
         ensures lays { OnOk result ((e : Expression)
             → TakesSpanIn program.now (Run (mode_of at.mode) e) ranges.items → LaysAt program.now self.new
@@ -173,12 +174,12 @@ impl<'p> Plan<'p> {
         if at.next == FAIL {
             return Err(NotCompiled::Unsupported);
         }
-        let Head {
+        let FirstSet {
             ranges: firsts,
             empty: _,
             noted,
-        } = head;
-        let note = own.saturating_add(1);
+        } = first_set;
+        let note = fresh.saturating_add(1);
         let miss = self.miss(noted, at.next, note)?;
         let set = self.set(ranges)?;
         let stops = self.set(firsts)?;
@@ -188,31 +189,31 @@ impl<'p> Plan<'p> {
                 set,
                 stops,
                 next: miss,
-                slow: own,
+                slow: fresh,
             },
         )?;
-        self.point(Part::Form(second), Place { label: own, ..at })?;
+        self.point(Part::Form(second), Place { label: fresh, ..at })?;
         Ok(())
     }
 
     /// Plans a sequence of a span and another form, with a test after the span if that spares work. The
-    /// labels from `own` on are free.
+    /// labels from `fresh` on are free.
     pub(crate) fn span_both(
         &mut self,
         alloc: Global,
         program: &Program,
-        heads: &Heads,
+        first_sets: &FirstSets,
         ranges: Ranges,
         first: &'p Form,
         second: &'p Form,
         at: Place,
-        own: u32,
+        fresh: u32,
     ) -> Result<(), NotCompiled>
         requires sound { IsSoundProgram program.now }
-        requires heads { AreHeads program.now heads.now }
+        requires first_sets { AreFirstSets program.now first_sets.now }
         requires first_bound { IsBoundIn program.now first.now }
         requires second_bound { IsBoundIn program.now second.now }
-        requires way { at.way ≡ 0 }
+        requires on_fail { at.on_fail ≡ 0 }
         requires tight { IsTightIn program.now at.mode }
         requires span { TakesSpanIn program.now (Run (mode_of at.mode) (said program.now first.now))
             ranges.items }
@@ -220,13 +221,13 @@ impl<'p> Plan<'p> {
         ensures lays { OnOk result (LaysAt program.now self.new (Run (mode_of at.mode)
             (Seq (said program.now first.entry.now) (said program.now second.entry.now))) at) }
     {
-        let made = spare_head(alloc, program, heads, second, at.mode)?;
+        let made = spare_first_set(alloc, program, first_sets, second, at.mode)?;
         match made {
-            Some(head) => {
-                self.span_sequence(program, ranges, head, second, at, own)?;
+            Some(first_set) => {
+                self.span_sequence(program, ranges, first_set, second, at, fresh)?;
                 Ok(())
             }
-            None => self.both(program, first, second, at, own),
+            None => self.both(program, first, second, at, fresh),
         }
     }
 }

@@ -20,28 +20,28 @@ impl<'p> Plan<'p> {
         program: &Program,
         body: &'p Form,
         at: Place,
-        own: u32,
+        fresh: u32,
     ) -> Result<(), NotCompiled>
         requires bound { IsBoundIn program.now body.now }
         ensures later { OnOk result (IsLater program.now self.old self.new) }
         ensures lays { OnOk result (LaysAt program.now self.new
             (Run (mode_of at.mode) (Push (said program.now body.entry.now))) at) }
     {
-        let last = own.saturating_add(1);
+        let last = fresh.saturating_add(1);
         self.operation(
             at.label,
             Op::Try {
-                next: own,
-                fail: at.way,
+                next: fresh,
+                fail: at.on_fail,
             },
         )?;
         self.operation(last, Op::Push { next: at.next })?;
         self.point(
             Part::Form(body),
             Place {
-                label: own,
+                label: fresh,
                 next: last,
-                way: FAIL,
+                on_fail: FAIL,
                 ..at
             },
         )?;
@@ -82,7 +82,7 @@ impl<'p> Plan<'p> {
             at.label,
             Op::Peek {
                 next: at.next,
-                fail: at.way,
+                fail: at.on_fail,
             },
         )?;
         Ok(())
@@ -99,7 +99,7 @@ impl<'p> Plan<'p> {
             at.label,
             Op::Pop {
                 next: at.next,
-                fail: at.way,
+                fail: at.on_fail,
             },
         )?;
         Ok(())
@@ -116,7 +116,7 @@ impl<'p> Plan<'p> {
             at.label,
             Op::Discard {
                 next: at.next,
-                fail: at.way,
+                fail: at.on_fail,
             },
         )?;
         Ok(())
@@ -133,7 +133,7 @@ impl<'p> Plan<'p> {
             at.label,
             Op::PeekAll {
                 next: at.next,
-                fail: at.way,
+                fail: at.on_fail,
             },
         )?;
         Ok(())
@@ -150,7 +150,7 @@ impl<'p> Plan<'p> {
             at.label,
             Op::PopAll {
                 next: at.next,
-                fail: at.way,
+                fail: at.on_fail,
             },
         )?;
         Ok(())
@@ -174,7 +174,7 @@ impl<'p> Plan<'p> {
                 from,
                 to,
                 next: at.next,
-                fail: at.way,
+                fail: at.on_fail,
             },
         )?;
         Ok(())

@@ -4,17 +4,17 @@ ghost use Rattle.base_language.specs.Language.Expression.{Choice};
 ghost use Rattle.base_language.specs.Language.Meaning.{Run, Task};
 ghost use Rattle.matcher_program.specs.declared.form.Program.{Program};
 ghost use Rattle.matcher_sets.specs.Forms.{IsBoundIn, IsSoundProgram, said};
-ghost use Rattle.matcher_sets.specs.Heads.{AreHeads};
+ghost use Rattle.matcher_sets.specs.FirstSets.{AreFirstSets};
 ghost use Rattle.matcher_sets.specs.Modes.{mode_of};
 ghost use Rattle.matcher_compiler.specs.Plans.{BranchesAt, FailsWithout, IsLater, LaysAt};
 
-use crate::firsts::narrow_head;
+use crate::firsts::narrow_first_set;
 use crate::plan::Plan;
 use crate::points::{Branch, Demand, NotCompiled, Part, Place};
 use crate::tables::TABLE_SIZE;
 use matcher_code::code::Op;
 use matcher_program::form::{Form, Program};
-use matcher_sets::heads::{Head, Heads};
+use matcher_sets::first_sets::{FirstSet, FirstSets};
 use matcher_sets::modes::Atomicity;
 use std::alloc::Global;
 
@@ -22,17 +22,17 @@ use std::alloc::Global;
 const MOST_TABLES: u32 = 1024;
 
 impl<'p> Plan<'p> {
-    /// Returns the head of the first alternative of a choice, if a table may spare something.
-    pub(crate) fn table_head(
+    /// Returns the FIRST set of the first alternative of a choice, if a table may spare something.
+    pub(crate) fn table_first_set(
         &self,
         alloc: Global,
         program: &Program,
-        heads: &Heads,
+        first_sets: &FirstSets,
         left: &Form,
         mode: Atomicity,
-    ) -> Result<Option<Head>, NotCompiled>
+    ) -> Result<Option<FirstSet>, NotCompiled>
         requires sound { IsSoundProgram program.now }
-        requires heads { AreHeads program.now heads.now }
+        requires first_sets { AreFirstSets program.now first_sets.now }
         requires bound { IsBoundIn program.now left.now }
         ensures { IfOk result (λ made. IfSome made
             (FailsWithout program.now (Run (mode_of mode) (said program.now left.now)))) }
@@ -40,7 +40,7 @@ impl<'p> Plan<'p> {
         if self.tables >= MOST_TABLES * TABLE_SIZE {
             return Ok(None);
         }
-        narrow_head(alloc, program, heads, left, mode)
+        narrow_first_set(alloc, program, first_sets, left, mode)
     }
 
     /// Sets the number of labels in tables.
@@ -50,18 +50,24 @@ impl<'p> Plan<'p> {
         self.tables = size;
     }
 
-    /// Plans a table where a task that fails where none of a head is next begins at `first`, and what is
+    /// Plans a table where a task that fails where none of a FIRST set is next begins at `first`, and what is
     /// tried then begins at `second`.
-    fn table(&mut self, head: Head, at: Place, first: u32, second: u32) -> Result<(), NotCompiled>
+    fn table(
+        &mut self,
+        first_set: FirstSet,
+        at: Place,
+        first: u32,
+        second: u32,
+    ) -> Result<(), NotCompiled>
         ensures later { OnOk result ((p : Program) → IsLater p self.old self.new) }
-        ensures branches { OnOk result ((p : Program) (k : Task) → FailsWithout p k head
+        ensures branches { OnOk result ((p : Program) (k : Task) → FailsWithout p k first_set
             → BranchesAt p self.new k at first second) }
     {
-        let Head {
+        let FirstSet {
             ranges,
             empty: _,
             noted,
-        } = head;
+        } = first_set;
         let table = self.tables;
         self.set_tables(table.saturating_add(TABLE_SIZE));
         let set = self.set(ranges)?;
@@ -73,43 +79,51 @@ impl<'p> Plan<'p> {
             first,
             second,
             next: at.next,
-            way: at.way,
+            on_fail: at.on_fail,
         }))?;
         Ok(())
     }
 
-    /// Plans a choice by a table. The labels from `own` on are free.
+    /// Plans a choice by a table. The labels from `fresh` on are free.
     pub(crate) fn switched_choice(
         &mut self,
         alloc: Global,
         program: &Program,
-        heads: &Heads,
-        head: Head,
+        first_sets: &FirstSets,
+        first_set: FirstSet,
         left: &'p Form,
         right: &'p Form,
         at: Place,
-        own: u32,
+        fresh: u32,
     ) -> Result<(), NotCompiled>
         requires sound { IsSoundProgram program.now }
-        requires heads { AreHeads program.now heads.now }
+        requires first_sets { AreFirstSets program.now first_sets.now }
         requires left_bound { IsBoundIn program.now left.now }
         requires right_bound { IsBoundIn program.now right.now }
-        requires fails { FailsWithout program.now (Run (mode_of at.mode) (said program.now left.now)) head }
-        requires up { 0 < own }
+        requires fails { FailsWithout program.now (Run (mode_of at.mode)
+            (said program.now left.now)) first_set }
+        requires up { 0 < fresh }
         ensures later { OnOk result (IsLater program.now self.old self.new) }
         ensures lays { OnOk result (LaysAt program.now self.new (Run (mode_of at.mode)
             (Choice (said program.now left.entry.now) (said program.now right.entry.now))) at) }
     {
-        let label = own.saturating_add(1);
-        self.table(head, at, label, own)?;
+        let label = fresh.saturating_add(1);
+        self.table(first_set, at, label, fresh)?;
         let first = Place {
             label,
-            way: own,
+            on_fail: fresh,
             ..at
         };
         self.point(Part::Form(left), first)?;
-        let second = Place { label: own, ..at };
-        let label = self.enter_any(alloc, program, heads, right, second, own.saturating_add(2))?;
+        let second = Place { label: fresh, ..at };
+        let label = self.enter_any(
+            alloc,
+            program,
+            first_sets,
+            right,
+            second,
+            fresh.saturating_add(2),
+        )?;
         let last = Place { label, ..at };
         self.point(Part::Form(right), last)?;
         Ok(())

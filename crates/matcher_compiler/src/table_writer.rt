@@ -205,7 +205,7 @@ impl<'a> Draft<'a> {
         match self.operation(label) {
             Op::Note { next } => {
                 next == branch.second
-                    || label != branch.second && label != branch.next && label != branch.way
+                    || label != branch.second && label != branch.next && label != branch.on_fail
             }
             _ => false,
         }

@@ -24,31 +24,32 @@ fn flag(code: &Code, row: u32, byte: u8) -> u8
 }
 
 /// Returns the flag of a first byte in a row, or 0 at the end.
-pub(crate) fn flag_at(code: &Code, row: u32, head: Option<u8>) -> u8
-    ensures { result ≤ 4 → (bs : List ℕ) → head_of bs ≡ head → char_len (lists_of code.now) row bs ≡ result }
+pub(crate) fn flag_at(code: &Code, row: u32, next_byte: Option<u8>) -> u8
+    ensures { result ≤ 4 → (bs : List ℕ) → head_of bs ≡ next_byte
+        → char_len (lists_of code.now) row bs ≡ result }
 {
-    match head {
+    match next_byte {
         Some(byte) => flag(code, row, byte),
         None => 0,
     }
 }
 
 /// Returns the index of a first byte, or of the end, in a table.
-pub(crate) fn index_of(head: Option<u8>) -> usize
-    ensures value { MatchOption head (result ≡ 256) (λ byte. result ≡ byte) }
+pub(crate) fn index_of(next_byte: Option<u8>) -> usize
+    ensures value { MatchOption next_byte (result ≡ 256) (λ byte. result ≡ byte) }
     ensures bound { result ≤ 256 }
 {
-    match head {
+    match next_byte {
         Some(byte) => byte as usize,
         None => 256,
     }
 }
 
 /// Returns the label that a table has for a first byte, or for the end.
-pub(crate) fn label_for(code: &Code, table: u32, head: Option<u8>) -> u32
-    ensures { result ≡ label_for (lists_of code.now) table head }
+pub(crate) fn label_for(code: &Code, table: u32, next_byte: Option<u8>) -> u32
+    ensures { result ≡ label_for (lists_of code.now) table next_byte }
 {
-    match code.tables.get(table as usize + index_of(head)) {
+    match code.tables.get(table as usize + index_of(next_byte)) {
         Some(label) => *label,
         None => 0,
     }
@@ -78,12 +79,12 @@ fn first_byte(code: &Code, text: u32) -> Option<u8>
 }
 
 /// Returns whether a text is not empty, and begins with another byte.
-fn begins_otherwise(code: &Code, text: u32, head: Option<u8>) -> bool
-    ensures { result ≡ true → (bs : List ℕ) → head_of bs ≡ head
+fn begins_otherwise(code: &Code, text: u32, next_byte: Option<u8>) -> bool
+    ensures { result ≡ true → (bs : List ℕ) → head_of bs ≡ next_byte
         → begins nat_eq (text_of (lists_of code.now) text) bs ≡ false }
 {
     match first_byte(code, text) {
-        Some(first) => match head {
+        Some(first) => match next_byte {
             Some(byte) => first != byte,
             None => true,
         },
@@ -98,12 +99,12 @@ fn label_after_test(
     set: u32,
     next: u32,
     fail: u32,
-    head: Option<u8>,
+    next_byte: Option<u8>,
 ) -> Option<u32>
     ensures { at_label (lists_of code.now) label ≡ op.IsOne set next fail
-        → IfSome result (Moves (lists_of code.now) head label) }
+        → IfSome result (Moves (lists_of code.now) next_byte label) }
 {
-    let flag = flag_at(code, set, head);
+    let flag = flag_at(code, set, next_byte);
     if flag == 0 {
         Some(fail)
     } else if flag <= 4 {
@@ -125,15 +126,15 @@ pub(crate) fn operation_at(code: &Code, label: u32) -> Op
 
 /// Returns the label at which the operation of a label goes on for a first byte, if it does nothing else.
 #[inline(always)]
-pub(crate) fn next_label(code: &Code, label: u32, here: Op, head: Option<u8>) -> Option<u32>
+pub(crate) fn next_label(code: &Code, label: u32, here: Op, next_byte: Option<u8>) -> Option<u32>
     ensures { at_label (lists_of code.now) label ≡ here
-        → IfSome result (Moves (lists_of code.now) head label) }
+        → IfSome result (Moves (lists_of code.now) next_byte label) }
 {
     match here {
-        Op::Switch { table } => Some(label_for(code, table, head)),
-        Op::IsOne { set, next, fail } => label_after_test(code, label, set, next, fail, head),
+        Op::Switch { table } => Some(label_for(code, table, next_byte)),
+        Op::IsOne { set, next, fail } => label_after_test(code, label, set, next, fail, next_byte),
         Op::One { set, next: _, fail } => {
-            if flag_at(code, set, head) == 0 {
+            if flag_at(code, set, next_byte) == 0 {
                 Some(fail)
             } else {
                 None
@@ -144,7 +145,7 @@ pub(crate) fn next_label(code: &Code, label: u32, here: Op, head: Option<u8>) ->
             next: _,
             fail,
         } => {
-            if begins_otherwise(code, text, head) {
+            if begins_otherwise(code, text, next_byte) {
                 Some(fail)
             } else {
                 None
@@ -166,11 +167,11 @@ fn label_after_note(code: &Code, label: u32) -> Option<u32>
 
 /// Returns whether the operation of a label goes on at another one for a first byte, and does nothing else.
 #[inline(always)]
-fn moves(code: &Code, from: u32, here: Op, head: Option<u8>, to: u32) -> bool
+fn moves(code: &Code, from: u32, here: Op, next_byte: Option<u8>, to: u32) -> bool
     ensures { at_label (lists_of code.now) from ≡ here → result ≡ true
-        → Moves (lists_of code.now) head from to }
+        → Moves (lists_of code.now) next_byte from to }
 {
-    match next_label(code, from, here, head) {
+    match next_label(code, from, here, next_byte) {
         Some(next) => next == to,
         None => false,
     }
@@ -178,11 +179,11 @@ fn moves(code: &Code, from: u32, here: Op, head: Option<u8>, to: u32) -> bool
 
 /// Returns whether a label is another one, or where the operation of that one goes on for a first byte.
 #[inline(always)]
-pub(crate) fn skips(code: &Code, from: u32, here: Op, head: Option<u8>, to: u32) -> bool
+pub(crate) fn skips(code: &Code, from: u32, here: Op, next_byte: Option<u8>, to: u32) -> bool
     ensures { at_label (lists_of code.now) from ≡ here → result ≡ true
-        → Skips (lists_of code.now) head from to }
+        → Skips (lists_of code.now) next_byte from to }
 {
-    to == from || moves(code, from, here, head, to)
+    to == from || moves(code, from, here, next_byte, to)
 }
 
 /// The label that the table of a choice has for a first byte, and that at which the operation of the second
@@ -207,7 +208,7 @@ pub(crate) fn is_noted(code: &Code, branch: Branch, lead: Lead) -> bool
     }
     match lead.next {
         Some(next) => {
-            next == behind || next == lead.to && lead.to != branch.next && lead.to != branch.way
+            next == behind || next == lead.to && lead.to != branch.next && lead.to != branch.on_fail
         }
         None => false,
     }
@@ -220,19 +221,19 @@ pub(crate) fn check_label(
     code: &Code,
     branch: Branch,
     first: Op,
-    head: Option<u8>,
+    next_byte: Option<u8>,
     flag: u8,
     to: u32,
     next: Option<u32>,
 ) -> bool
-    requires flag { flag ≤ 4 → (bs : List ℕ) → head_of bs ≡ head
+    requires flag { flag ≤ 4 → (bs : List ℕ) → head_of bs ≡ next_byte
         → char_len (lists_of code.now) branch.set bs ≡ flag }
     ensures { result ≡ true → at_label (lists_of code.now) branch.first ≡ first
-        → IfSome next (Moves (lists_of code.now) head branch.second)
-        → ContinuesAs (lists_of code.now) branch head to }
+        → IfSome next (Moves (lists_of code.now) next_byte branch.second)
+        → ContinuesAs (lists_of code.now) branch next_byte to }
 {
     if flag != 0 {
-        return skips(code, branch.first, first, head, to);
+        return skips(code, branch.first, first, next_byte, to);
     }
     if branch.noted {
         return is_noted(code, branch, Lead { next, to });

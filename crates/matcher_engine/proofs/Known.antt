@@ -2,12 +2,9 @@
 use Rattle.std.proofs.Common.{◌≡◌, refl, sym, ◌∙◌, ap, subst, ℕ, zero, suc, ◌<◌, ◌≤◌, List, [], ◌∷◌, Bool, true, false, Option, Some, None, chars, codes, bytes_eq, get_or, length, map, arith, if◌then◌else◌}
 use Rattle.std.proofs.lemmas.List.{get_or-map, length-map}
 use Rattle.std.proofs.lemmas.Slice.Eq.{bytes_eq-Decides}
-use Rattle.base_ast.specs.Ast.{text_of}
 use Rattle.base_language.specs.Language.Expression.{Grammar, Normal, Rule, Str, last_place, or_else, rule_of}
 use Rattle.base_language.specs.Language.FurthestFailure.{is_eoi}
 use Rattle.base_language.specs.Language.Text.{Text}
-use Rattle.matcher_program.specs.declared.form.Row.{Row}
-use Rattle.matcher_program.specs.Programs.{grammar_of, names_of, rule_of_row}
 use Rattle.matcher_compiler.specs.Names.{number_in, or_end}
 use Rattle.matcher_engine.specs.Walks.{name_in}
 use Rattle.std.proofs.lemmas.Str.{chars-IsAscii}
@@ -62,26 +59,6 @@ named_map f h same (x ∷ xs) (suc i) d e l = named_map f h same xs i d e (omega
 pub no_rule : Rule
 no_rule = record { name = []; type_of = Normal; body = Str [] }
 
--- the name of a known number
-module _ (rows : List Row) (r : Text) where
-  long : length (grammar_of rows) ≡ length rows
-  long = length-map rows (rule_of_row (names_of rows))
-
-  by_place : (o : Option ℕ) → last_place (grammar_of rows) r ≡ o → (b : Bool) → is_eoi r ≡ b → or_end o b (length (grammar_of rows)) ≤ length rows
-      → get_or (names_of rows) (or_end o b (length (grammar_of rows))) (codes "EOI") ≡ r
-  by_place (Some i) e b f k =
-      let x = placed (grammar_of rows) r i e in
-      let l : i < length rows = omega (arith, x.0, long) in
-      named_map (rule_of_row (names_of rows)) (λ w. text_of w.name) (λ w. refl) rows i no_rule (codes "EOI") l ∙ x.1 no_rule
-  by_place None e true f k =
-      let n : length (names_of rows) ≡ length rows = length-map rows (λ w. text_of w.name) in
-      let y : r ≡ codes "EOI" = (bytes_eq-Decides r (codes "EOI")).0 f in
-      past (names_of rows) (length (grammar_of rows)) (codes "EOI") (omega (arith, n, long)) ∙ sym y
-  by_place None e false f k = absurd (omega (arith, long, k))
-
-  pub known_name : number_in (grammar_of rows) r ≤ length rows → name_in (names_of rows) (number_in (grammar_of rows) r) ≡ r
-  known_name h = by_place (last_place (grammar_of rows) r) refl (is_eoi r) refl h
-
 -- the name of a known number, among the names of a grammar's rules
 module _ (g : Grammar) (r : Text) where
   by_text : (o : Option ℕ) → last_place g r ≡ o → (b : Bool) → is_eoi r ≡ b → or_end o b (length g) ≤ length g
@@ -97,11 +74,6 @@ module _ (g : Grammar) (r : Text) where
 
   pub known_text : number_in g r ≤ length g → name_in (map (λ w. w.name) g) (number_in g r) ≡ r
   known_text h = by_text (last_place g r) refl (is_eoi r) refl h
-
--- the name of a known number is that of each rule of the number
-pub names_rule : (rows : List Row) (row : ℕ) (name : Text) → row ≤ length rows → name ≡ name_in (names_of rows) row
-    → (r : Text) → number_in (grammar_of rows) r ≡ row → name ≡ r
-names_rule rows row name h e r n = e ∙ (ap (name_in (names_of rows)) (sym n) ∙ known_name rows r (subst (λ k. k ≤ length rows) (sym n) h))
 
 pub eoi_text : chars (codes "EOI") ≡ codes "EOI"
 eoi_text = chars-IsAscii (codes "EOI") (IsAscii-cons 69 (79 ∷ 73 ∷ []) (omega arith) (IsAscii-cons 79 (73 ∷ []) (omega arith) (IsAscii-cons 73 [] (omega arith) IsAscii-nil)))

@@ -8,13 +8,11 @@ use Rattle.matcher_code.specs.declared.state.TreeNode.{TreeNode}
 use Rattle.matcher_code.specs.Reached.{count_of, nodes_of}
 use Rattle.base_language.specs.Language.State.{Classes, State}
 use Rattle.matcher_compiler.specs.Names.{number_in}
-use Rattle.matcher_engine.proofs.Known.{known_name, known_text}
+use Rattle.matcher_engine.proofs.Known.{known_text}
 use Rattle.matcher_engine.proofs.Rows.{number_within}
 use Rattle.matcher_engine.proofs.TreeNames.{HaveTreeNumbers, trees_have}
 use Rattle.matcher_engine.specs.Preorders.{HasPreorder}
 use Rattle.matcher_engine.specs.declared.matcher.Preorder.{Preorder}
-use Rattle.matcher_program.specs.Programs.{grammar_of, names_of, rule_of_row}
-use Rattle.matcher_program.specs.declared.form.Row.{Row}
 use Rattle.matcher_engine.specs.Walks.{visited_of}
 use Rattle.matcher_engine.specs.declared.walk.VisitedTree.{VisitedTree}
 use Rattle.std.proofs.Math.Seq.{drop-cons, take-length, take-suc}
@@ -149,20 +147,6 @@ enters_next names nodes k n items new t goes l at is e m =
     ∙ (open_one names t.node rest k left goes
     ∙ (ap (λ x. Enters x ∷ remaining names rest (suc k) (x ∷ left)) v
     ∙ ap (λ x. Enters (visited_of t) ∷ x) (ap (λ os. remaining names rest (suc k) os) opened ∙ ap (λ j. remaining names (drop j nodes) j (open_trees new)) (sym m))))
-
--- the trees of a match, by their rows
-module _ (rows : List Row) where
-  all_named : (us : Trees) → HaveTreeNumbers (grammar_of rows) us → AreNamed (names_of rows) (number_in (grammar_of rows)) us
-  all_named None' h = tt
-  all_named (Tree r i j inner others) h =
-      let long : length (grammar_of rows) ≡ length rows = length-map rows (rule_of_row (names_of rows)) in
-      (known_name rows r (omega (arith, number_within (grammar_of rows) r h.0, long)), all_named inner h.1, all_named others h.2)
-
-  pub walk_of_match : (n : Text) (s : State) (classes : Classes) (it : Preorder) → (x : HasPreorder (grammar_of rows) n s classes it)
-      → remaining (names_of rows) it.trees.items 0 [] ≡ visits (number_in (grammar_of rows)) 0 0 x.trees
-  walk_of_match n s classes it x =
-      ap (λ ts. remaining (names_of rows) ts 0 []) x.nodes
-      ∙ walk_trees (names_of rows) (number_in (grammar_of rows)) x.trees (all_named x.trees (trees_have (grammar_of rows) x.found))
 
 -- the trees of a match, by the names of a grammar's rules
 module _ (g : Grammar) (names : List Text) (same : names ≡ map (λ r. r.name) g) where

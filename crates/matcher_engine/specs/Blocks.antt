@@ -9,6 +9,8 @@ use Rattle.format_binary.specs.Format.{type_byte}
 use Rattle.format_code.specs.Codes.{lists_at}
 use Rattle.format_code.specs.Sections.{section}
 use Rattle.matcher_compiler.specs.Compiled.{IsCodeOf}
+use Rattle.matcher_compiler.specs.Extents.{IsFitting}
+use Rattle.matcher_machine.specs.Kinds.{IsFramed}
 use Rattle.matcher_engine.specs.declared.block.head.BlockFlaw.{BlockFlaw}
 use Rattle.matcher_engine.specs.declared.block.head.BlockFlaw.TheVariants as flaw
 use Rattle.matcher_program.specs.Programs.{Fits}
@@ -55,17 +57,24 @@ HasFlaw block flaw.Changed = IsBlock block × (has_sum block ≡ false)
 abbrev pub part_of : List ℕ → ℕ → List ℕ
 part_of block k = section (drop 16 block) k
 
+-- the number of operations of code for matches
+abbrev pub operations_in : List ℕ → ℕ
+operations_in block = length (lists_at (part_of block 0)).ops
+
 -- the names of rules, and the numbers of their types
 pub record HasRules (block : List ℕ) (rules : List OptimizedRule) : Type 0 where
   pub names : (k : ℕ) → k < length rules
       → section (part_of block 2) k ≡ get_or (map (λ r. string_bytes r.name) rules) k []
   pub types : part_of block 3 ≡ map (λ r. type_byte r.ty) rules
 
--- the code in the block is that of a program
+-- the code in the block is that of a program; code for matches fits its size, uses the stack only if the
+-- program does, and each operation pops a frame that is meant for it
 pub record HasCode (block : List ℕ) (p : Program) : Type 0 where
   pub head : IsBlock block
   pub plain : IsCodeOf false p (lists_at (part_of block 0))
   pub exact : IsCodeOf true p (lists_at (part_of block 1))
+  pub fits : IsFitting p (lists_at (part_of block 0))
+  pub framed : IsFramed (lists_at (part_of block 0))
 
 -- the code in the block is that of a grammar, with these sets of characters, and it has a type for each rule
 pub record IsBlockOf (g : Grammar) (classes : Classes) (block : List ℕ) : Type 0 where

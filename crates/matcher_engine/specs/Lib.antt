@@ -1,14 +1,11 @@
 pub mod BlockRuns
 pub mod Blocks
-pub mod ExpectedRows
-pub mod Guided
+pub mod Limits
 pub mod Marks
-pub mod Matchers
+pub mod PackratAnswers
 pub mod Preorders
 pub mod Reasons
-pub mod Recognitions
 pub mod Runs
-pub mod Soundness
 pub mod Traces
 pub mod Walks
 pub mod FailureAttempts

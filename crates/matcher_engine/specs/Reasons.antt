@@ -6,8 +6,6 @@ use Rattle.base_language.specs.Language.State.{Classes, Mode, NonAtomicMode, Out
 use Rattle.base_language.specs.Language.Text.{Text}
 use Rattle.matcher_code.specs.Begun.{ComesTo, IsEmptyRead}
 use Rattle.matcher_program.specs.declared.form.Property.{Property}
-use Rattle.matcher_program.specs.declared.answers.Refusal.{Refusal}
-use Rattle.matcher_program.specs.declared.answers.Refusal.TheVariants as is
 use Rattle.matcher_program.specs.declared.answers.Stop.{Stop}
 use Rattle.matcher_program.specs.declared.answers.Stop.TheVariants as stop
 use Rattle.matcher_program.specs.Answers.{HasAt}
@@ -44,8 +42,3 @@ HasReason g ps n s steps stop.OutOfSteps =
     (classes : Classes) → Fits ps classes → ∥ IsLonger g classes n s steps ∥₁
 HasReason g ps n s steps stop.EmptyStack =
     (classes : Classes) → Fits ps classes → ∥ ReadsEmptyStack g classes n s ∥₁
-
--- where a refusal is a stop, that is so for a reason
-abbrev pub StopsFor : (Stop → Type 0) → Refusal → Type 0
-StopsFor holds (is.Stopped why) = holds why
-StopsFor holds _ = ⊤

@@ -9,11 +9,8 @@ use Rattle.matcher_code.specs.declared.state.TreeNode.{TreeNode}
 use Rattle.matcher_engine.specs.declared.walk.VisitedTree.{VisitedTree}
 use Rattle.matcher_engine.specs.declared.walk.Visit as code
 use Rattle.matcher_engine.specs.declared.walk.Visit.TheVariants as is
-use Rattle.matcher_engine.specs.declared.walk.RuleNames.{RuleNames}
-use Rattle.matcher_engine.specs.declared.walk.RuleNames.TheVariants as by
 use Rattle.matcher_engine.specs.declared.walk.TreeWalk.{TreeWalk}
 use Rattle.matcher_program.specs.ExpectedNames.{name_texts}
-use Rattle.matcher_program.specs.Programs.{names_of}
 
 -- a tree of a walk: the name of its rule, the tree, its number in preorder, and how many trees hold it
 pub record Visited : Type 0 where
@@ -80,11 +77,6 @@ remaining names (t ∷ ts) k open_trees =
     let it = entered names t k (length left) in
     closed k open_trees ++ Enters it ∷ remaining names ts (suc k) (it ∷ left)
 
--- the names of a walk
-abbrev pub names_in : RuleNames → List Text
-names_in (by.Rows rows) = names_of rows.now
-names_in (by.Texts texts) = name_texts texts.now
-
 -- the names of a grammar's rules, in order
 abbrev pub AreNamesOf : Grammar → List (Bor (List ℕ)) → Type 0
 AreNamesOf g names = name_texts names ≡ map (λ r. r.name) g
@@ -92,5 +84,5 @@ AreNamesOf g names = name_texts names ≡ map (λ r. r.name) g
 -- the rest of a walk
 abbrev pub visits_left : TreeWalk → List Visit
 visits_left w =
-    remaining (names_in w.names) (drop w.number w.trees.now) w.number
+    remaining (name_texts w.names.now) (drop w.number w.trees.now) w.number
     (map visited_of (reverse w.pending.items))

@@ -1,29 +1,23 @@
 //! The rules that an error of pest names.
-ghost use Rattle.std.specs.Prelude.{◌≡◌, IfErr, IfOk, Some, chars, true};
+ghost use Rattle.std.specs.Prelude.{◌≡◌, Some, true};
 ghost use Rattle.base_language.specs.Language.Expression.{last_place};
 ghost use Rattle.base_language.specs.Language.State.{Classes};
 ghost use Rattle.base_language.specs.Language.Text.{Text};
 ghost use Rattle.matcher_code.specs.Bytecodes.{lists_in};
 ghost use Rattle.matcher_compiler.specs.Compiled.{IsCodeOf};
-ghost use Rattle.matcher_program.specs.Answers.{IsUnanswered, IsUnansweredFrom, start_of, state_at};
+ghost use Rattle.matcher_program.specs.Answers.{state_at};
 ghost use Rattle.matcher_program.specs.Programs.{Fits};
 ghost use Rattle.matcher_program.specs.declared.form.Program.{Program};
 ghost use Rattle.matcher_sets.specs.Forms as forms;
 ghost use Rattle.matcher_engine.specs.FailureAttempts.{AreAttemptsFrom, AreToldAt};
 ghost use Rattle.matcher_engine.specs.FailurePaths.{Answers};
-ghost use Rattle.matcher_engine.specs.Matchers.{grammar_in, properties_in};
-ghost use Rattle.matcher_engine.specs.Reasons.{HasReason, StopsFor};
 
-use crate::codes::name_code_bytes;
-use crate::matcher::{Matcher, has_long_text};
 use crate::paths::{NOWHERE, trace_rule};
 use crate::tracer::Tracer;
-use base_language::runtime::{Position, Span};
-use format_code::code::read_code;
+use base_language::runtime::Position;
 use matcher_code::bytecode::Bytecode;
 use matcher_code::state::Places;
-use matcher_compiler::names::last_index;
-use matcher_program::answers::{Refusal, Stop};
+use matcher_program::answers::Stop;
 use std::alloc::Global;
 
 /// The rules that an error of pest names, and its place.
@@ -36,69 +30,6 @@ pub struct Attempts {
     pub positives: Vec<u32>,
     /// The rows of the rules that are not expected there, so too.
     pub negatives: Vec<u32>,
-}
-
-impl Matcher {
-    /// Returns the rules that pest's error names where `match_text` refuses a text, and the place of that
-    /// error. A call that gives a token is recorded where it fails, and below a `!` where it matches: its
-    /// rule is not expected there. At the greatest position of such calls their rules stand for those within
-    /// them, unless these are exactly one.
-    ///
-    /// The rules are compiled once more, and the rule is run, asked at `place` first: it takes one run if
-    /// that is the place of the attempts, as the position of `Refusal::NoMatch` mostly is, and at most
-    /// three. Calls are not remembered, so a run may take more steps than one of `match_text`. Errors are
-    /// those of `match_text`, but a text on which the rule fails has an answer; more than 65,535 rules of a
-    /// kind count as an allocation failure.
-    pub fn attempts<'a>(
-        &'a self,
-        alloc: Global,
-        rule: &'a str,
-        text: &'a str,
-        place: usize,
-        steps: u64,
-    ) -> Result<Attempts, Refusal<'a>>
-        ensures attempts { IfOk result (AreAttemptsFrom (grammar_in self.entry.now)
-            (properties_in self.entry.now) (chars rule.entry.now) (start_of text.entry.now)) }
-        ensures refused { IfErr result (IsUnanswered (grammar_in self.entry.now)
-            (properties_in self.entry.now) (chars rule.entry.now) text.entry.now steps) }
-        ensures reason { IfErr result (StopsFor (HasReason (grammar_in self.entry.now)
-            (properties_in self.entry.now) (chars rule.entry.now) (start_of text.entry.now) steps)) }
-    {
-        self.attempts_from(alloc, rule, Span::of(text, 0, 0).start_pos(), place, steps)
-    }
-
-    /// Returns the attempts as `attempts`, in runs as by `parse_preorder`; places are counted from the start
-    /// of the text.
-    pub fn attempts_from<'a>(
-        &'a self,
-        alloc: Global,
-        rule: &'a str,
-        start: Position<'a>,
-        place: usize,
-        steps: u64,
-    ) -> Result<Attempts, Refusal<'a>>
-        ensures attempts { IfOk result (AreAttemptsFrom (grammar_in self.entry.now)
-            (properties_in self.entry.now) (chars rule.entry.now) (state_at start.entry)) }
-        ensures refused { IfErr result (IsUnansweredFrom (grammar_in self.entry.now)
-            (properties_in self.entry.now) (chars rule.entry.now) (state_at start.entry) steps) }
-        ensures reason { IfErr result (StopsFor (HasReason (grammar_in self.entry.now)
-            (properties_in self.entry.now) (chars rule.entry.now) (state_at start.entry) steps)) }
-    {
-        let Some(number) = last_index(self.program.rows.as_slice(), rule) else {
-            return Err(Refusal::UnknownRule(rule));
-        };
-        if has_long_text(start) {
-            return Err(Refusal::Stopped(Stop::TextTooLong));
-        }
-        let Ok(bytes) = name_code_bytes(alloc, &self.program) else {
-            return Err(Refusal::Stopped(Stop::Memory));
-        };
-        let code = read_code(&bytes);
-        match find_attempts(alloc, &code, number, start, place, steps) {
-            Ok(attempts) => Ok(attempts),
-            Err(stop) => Err(Refusal::Stopped(stop)),
-        }
-    }
 }
 
 /// Runs code for the rule of a number from a position of a text on, in at most `steps` steps. Returns the

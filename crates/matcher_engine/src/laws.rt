@@ -5,7 +5,7 @@ ghost use Rattle.base_language.specs.Language.State.{Classes, State};
 ghost use Rattle.base_language.specs.Language.Text.{Text};
 ghost use Rattle.base_language.specs.Language.WellFormed.{IsPlain, IsWellFormed, NamesHaveReadableCounts};
 ghost use Rattle.matcher_engine.specs.Blocks.{sum_of};
-ghost use Rattle.matcher_engine.specs.Recognitions.{HasOutcomeFrom};
+ghost use Rattle.matcher_engine.specs.Limits.{HasOutcomeFrom};
 ghost use Rattle.matcher_program.specs.Programs.{Fits};
 ghost use Rattle.matcher_program.specs.declared.form.Property.{Property};
 
@@ -23,7 +23,7 @@ pub fn other_bytes_have_other_sums()
 {}
 
 /// In a well-formed plain grammar with readable counts each rule has an outcome from every state, for all
-/// classes, so that `Matcher::recognize` has an answer in enough turns.
+/// classes, so that `recognize_block` has an answer in enough turns.
 pub fn plain_rules_have_outcomes()
     ensures { (g : Grammar) (ps : List Property) (classes : Classes) → Fits ps classes
         → NamesHaveReadableCounts g → IsWellFormed g → IsPlain g

@@ -4,11 +4,11 @@
 pub mod attempts;
 pub mod block;
 pub mod codes;
-pub mod guide;
 pub mod laws;
+mod limits;
 pub mod mark;
 pub mod matcher;
+mod packrat;
 pub mod paths;
-pub mod recognize;
 pub mod tracer;
 pub mod walk;

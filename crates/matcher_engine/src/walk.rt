@@ -6,13 +6,11 @@ ghost use Rattle.base_language.specs.Language.Text.{Text};
 ghost use Rattle.matcher_compiler.specs.Names.{number_in};
 ghost use Rattle.matcher_engine.specs.Preorders.{HasPreorder};
 ghost use Rattle.matcher_program.specs.ExpectedNames.{name_texts};
-ghost use Rattle.matcher_program.specs.Programs.{names_of};
-ghost use Rattle.matcher_engine.specs.Walks.{AreNamesOf, name_in, names_in, visit_of, visits, visits_left};
+ghost use Rattle.matcher_engine.specs.Walks.{AreNamesOf, name_in, visit_of, visits, visits_left};
 
 use crate::matcher::Preorder;
 use front_names::Builtin;
 use matcher_code::state::TreeNode;
-use matcher_program::form::Row;
 use std::alloc::{AllocError, Global};
 
 /// A tree that a walk comes to.
@@ -23,55 +21,26 @@ pub struct VisitedTree<'m> {
     pub node: TreeNode,
     /// Its number in preorder, from 0 on.
     pub number: usize,
-    /// How many trees hold it.
+    /// The number of trees that contain it.
     pub depth: usize,
 }
 
-/// A step of a walk: into a tree, before its descendants, or out of it, after them.
+/// One event of a walk: entering a tree, or leaving it.
 #[derive(Clone, Copy, Debug)]
 pub enum Visit<'m> {
     Enter(VisitedTree<'m>),
     Leave(VisitedTree<'m>),
 }
 
-/// The names of rules, by their numbers.
-#[derive(Clone, Copy)]
-pub(crate) enum RuleNames<'m> {
-    Rows(&'m [Row]),
-    Texts(&'m [&'m str]),
-}
-
 /// A walk over the trees of a match, with the names of their rules. Its list has the open trees.
 #[derive(Drop)]
 pub struct TreeWalk<'m, 't> {
-    pub(crate) names: RuleNames<'m>,
-    pub(crate) trees: &'t [TreeNode],
+    names: &'m [&'m str],
+    trees: &'t [TreeNode],
     /// The number of the next tree.
-    pub(crate) number: usize,
+    number: usize,
     /// The open trees, the last one at the end.
-    pub(crate) pending: Vec<VisitedTree<'m>>,
-}
-
-/// Returns the name of the rule of a number, or `EOI` for a number that is no rule's.
-#[inline(always)]
-fn name_of<'a>(names: RuleNames<'a>, row: u32) -> &'a str
-    ensures { chars result.now ≡ name_in (names_in names.entry) row }
-{
-    match names {
-        RuleNames::Rows(rows) => row_name(rows, row),
-        RuleNames::Texts(texts) => text_name(texts, row),
-    }
-}
-
-/// Returns the name of the row of a number, or `EOI` for a number that is no row's.
-#[inline(always)]
-pub(crate) fn row_name<'a>(rows: &'a [Row], row: u32) -> &'a str
-    ensures { chars result.now ≡ name_in (names_of rows.entry.now) row }
-{
-    match rows.get(row as usize) {
-        Some(row) => row.name.as_str(),
-        None => Builtin::Eoi.name(),
-    }
+    pending: Vec<VisitedTree<'m>>,
 }
 
 /// Returns the name of a number among names, or `EOI` for a number that is none's.
@@ -96,7 +65,7 @@ pub fn walk_names<'m, 't>(
         → visits_left result ≡ visits (number_in g) 0 0 x.trees }
 {
     TreeWalk {
-        names: RuleNames::Texts(names),
+        names,
         trees: &found.trees,
         number: 0,
         pending: Vec::new(alloc),
@@ -104,7 +73,10 @@ pub fn walk_names<'m, 't>(
 }
 
 impl<'m> TreeWalk<'m, '_> {
-    /// Goes on to the next visit; none is left after the last one. The only error is an allocation failure.
+    /// Returns the next event, or `None` after the last one.
+    ///
+    /// # Errors
+    /// `AllocError` if an allocation fails.
     #[inline(always)]
     pub fn next_visit(&mut self) -> Result<Option<Visit<'m>>, AllocError>
         ensures { IfOk result (λ visit. MatchOption visit (visits_left self.old ≡ [])
@@ -122,7 +94,7 @@ impl<'m> TreeWalk<'m, '_> {
             return Ok(None);
         };
         let tree = VisitedTree {
-            rule: name_of(self.names, node.row),
+            rule: text_name(self.names, node.row),
             node: *node,
             number: self.number,
             depth: self.pending.len(),

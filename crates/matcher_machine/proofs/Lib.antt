@@ -13,5 +13,12 @@ pub mod Returning
 pub mod Positions
 pub mod GivenUp
 pub mod Baring
-pub mod Skipping
 mod Growing
+pub mod Eventing
+pub mod Tracking
+pub mod Standing
+pub mod Logging
+pub mod Matching
+pub mod Recording
+pub mod Spanning
+pub mod Expanding

@@ -1,8 +1,13 @@
+pub mod Bare
+pub mod Events
+pub mod Expansions
 pub mod Frames
-pub mod Guides
+pub mod Kinds
 pub mod Links
+pub mod Logs
 pub mod Machines
 pub mod Memories
 pub mod Memos
 pub mod Outlines
+pub mod Packrats
 pub mod Stacks

@@ -2,14 +2,17 @@
 #![tactic(auto)]
 
 mod comments;
+mod events;
+mod expansion;
 mod fused_operations;
 mod fused_running;
-pub mod guiding;
+pub mod kinds;
 pub mod laws;
 pub mod machine;
 mod memo;
 mod memory;
 mod operations;
+pub mod packrat;
 pub mod recognizing;
 mod remembering;
 pub mod running;

@@ -6,25 +6,26 @@ ghost use Rattle.matcher_program.specs.declared.answers.Stop.TheVariants.{Memory
 use base_language::runtime::Position;
 use std::alloc::AllocError;
 
-/// The reason why a text has no match.
+/// Why a match has no result.
 #[derive(Debug, Drop)]
 pub enum Refusal<'a> {
     /// No rule has this name.
     UnknownRule(&'a str),
-    /// The rule fails; the furthest position, in bytes, at which a call that counts failed.
+    /// The rule fails. This is the furthest position, in bytes, at which a counted call failed, or 0 if
+    /// none did.
     NoMatch(usize),
     /// The run was stopped.
     Stopped(Stop),
 }
 
-/// The reason why a run has no answer.
+/// Why a run was stopped.
 #[derive(Debug, Drop)]
 pub enum Stop {
     /// An allocation failed.
     Memory,
-    /// More steps than were allowed are needed.
+    /// The run needs more steps than were allowed.
     OutOfSteps,
-    /// `PEEK` or `POP` on the empty stack.
+    /// The run came to `PEEK` or `POP`, and the stack is empty.
     EmptyStack,
     /// The text has 2^32 bytes or more.
     TextTooLong,

@@ -24,12 +24,12 @@ use base_ast::optimized::OptimizedRule;
 use front_names::{Builtin, CharSet, comment_name, unicode_property_names, whitespace_name};
 use std::alloc::{AllocError, Global};
 
-/// The reason to refuse rules.
+/// Why rules cannot be run.
 #[derive(Debug, Drop)]
 pub enum Unfit {
     /// An allocation failed.
     Memory,
-    /// A name is called that is neither a rule's nor a builtin's.
+    /// A rule calls a name that is neither a rule nor a builtin, or a property that is not known.
     UnknownName(String),
     /// A bound of a range is not one character.
     Bound(String),

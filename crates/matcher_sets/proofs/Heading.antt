@@ -23,11 +23,11 @@ use Rattle.matcher_program.specs.declared.form.Form.{Form}
 use Rattle.matcher_program.specs.declared.form.Program.{Program}
 use Rattle.matcher_program.specs.declared.form.Row.{Row}
 use Rattle.matcher_program.specs.Programs.{Fits}
-use Rattle.matcher_sets.specs.declared.heads.Head.{Head}
+use Rattle.matcher_sets.specs.declared.first_sets.FirstSet.{FirstSet}
 use Rattle.matcher_sets.specs.declared.modes.Atomicity.{Atomicity}
 use Rattle.matcher_sets.specs.Differences.{AddsFirsts}
 use Rattle.matcher_sets.specs.Forms.{IsSoundProgram, grammar_in, said}
-use Rattle.matcher_sets.specs.Heads.{AreHeadsIn, HasFront, HasHead, IsCall, IsGapHead, IsJoin, TakesNothing}
+use Rattle.matcher_sets.specs.FirstSets.{AreFirstSetsIn, HasFront, HasFirstSet, IsCall, IsGapFirstSet, IsJoin, TakesNothing}
 use Rattle.matcher_sets.specs.Modes.{mode_of}
 use Rattle.matcher_sets.specs.Ranges.{Adds}
 use Rattle.matcher_sets.proofs.Ranging.{between_same, covered-append, or_none}
@@ -237,34 +237,34 @@ firsts_take p f m ranges h classes fits s miss =
     (misses_starts ranges x.characters x.adds s.rest miss) (y.found, silent_place y.found y.quiet, silent_unless y.found y.quiet false)
 
 -- where a form never succeeds without taking something
-pub fails_outside : (p : Program) (m : Mode) (e : Expression) (h : Head) → HasHead p m e h → h.empty ≡ false → (classes : Classes) → Fits p.properties.items classes
+pub fails_outside : (p : Program) (m : Mode) (e : Expression) (h : FirstSet) → HasFirstSet p m e h → h.empty ≡ false → (classes : Classes) → Fits p.properties.items classes
     → FailsOutside (grammar_in p) classes (Run m e) h.ranges.items h.noted
 fails_outside p m e h x q classes fits = subst (λ b. TakesNothing (grammar_in p) classes (Run m e) h.ranges.items b h.noted) q (x.takes classes fits)
 
 -- where a form always succeeds without taking something
-pub takes_none : (p : Program) (m : Mode) (e : Expression) (h : Head) → HasHead p m e h → h.empty ≡ true → (classes : Classes) → Fits p.properties.items classes
+pub takes_none : (p : Program) (m : Mode) (e : Expression) (h : FirstSet) → HasFirstSet p m e h → h.empty ≡ true → (classes : Classes) → Fits p.properties.items classes
     → TakesNone (grammar_in p) classes (Run m e) h.ranges.items h.noted
 takes_none p m e h x q classes fits = subst (λ b. TakesNothing (grammar_in p) classes (Run m e) h.ranges.items b h.noted) q (x.takes classes fits)
 
--- heads by those of the parts
+-- FIRST sets by those of the parts
 module _ (p : Program) (m : Mode) (a b : Expression) where
-  with_empty : (h : Head) {v w : Bool} (e : Expression) (classes : Classes) → v ≡ w
+  with_empty : (h : FirstSet) {v w : Bool} (e : Expression) (classes : Classes) → v ≡ w
       → TakesNothing (grammar_in p) classes (Run m e) h.ranges.items v h.noted → TakesNothing (grammar_in p) classes (Run m e) h.ranges.items w h.noted
   with_empty h e classes q x = subst (λ v. TakesNothing (grammar_in p) classes (Run m e) h.ranges.items v h.noted) q x
 
-  pub left_head : (h : Head) → h.empty ≡ true → HasHead p m a h → HasHead p m (Choice a b) h
-  left_head h q x = record {
+  pub left_first_set : (h : FirstSet) → h.empty ≡ true → HasFirstSet p m a h → HasFirstSet p m (Choice a b) h
+  left_first_set h q x = record {
     takes = λ classes fits.
         with_empty h (Choice a b) classes (sym q) (left_takes (grammar_in p) classes m a b h.ranges.items h.noted (with_empty h a classes q (x.takes classes fits)));
   }
 
-  pub first_head : (h : Head) → h.empty ≡ false → HasHead p m a h → HasHead p m (Seq a b) h
-  first_head h q x = record {
+  pub first_first_set : (h : FirstSet) → h.empty ≡ false → HasFirstSet p m a h → HasFirstSet p m (Seq a b) h
+  first_first_set h q x = record {
     takes = λ classes fits.
         with_empty h (Seq a b) classes (sym q) (first_fails (grammar_in p) classes m a b h.ranges.items h.noted (with_empty h a classes q (x.takes classes fits)));
   }
 
-  joined_as : (e : Expression) (classes : Classes) (h k j : Head) → IsJoin h k j
+  joined_as : (e : Expression) (classes : Classes) (h k j : FirstSet) → IsJoin h k j
       → TakesNothing (grammar_in p) classes (Run m e) (h.ranges.items ++ k.ranges.items) k.empty (h.noted || k.noted)
       → TakesNothing (grammar_in p) classes (Run m e) j.ranges.items j.empty j.noted
   joined_as e classes h k j q x =
@@ -272,19 +272,19 @@ module _ (p : Program) (m : Mode) (a b : Expression) where
       (subst (λ v. TakesNothing (grammar_in p) classes (Run m e) (h.ranges.items ++ k.ranges.items) v j.noted) (sym q.empty)
       (subst (λ n. TakesNothing (grammar_in p) classes (Run m e) (h.ranges.items ++ k.ranges.items) k.empty n) (sym q.noted) x))
 
-  pub either_head : (h k j : Head) → h.empty ≡ false → IsJoin h k j → HasHead p m a h → HasHead p m b k → HasHead p m (Choice a b) j
-  either_head h k j q joined x y = record {
+  pub either_first_set : (h k j : FirstSet) → h.empty ≡ false → IsJoin h k j → HasFirstSet p m a h → HasFirstSet p m b k → HasFirstSet p m (Choice a b) j
+  either_first_set h k j q joined x y = record {
     takes = λ classes fits.
         joined_as (Choice a b) classes h k j joined (either_takes (grammar_in p) classes m a b h.ranges.items k.ranges.items h.noted k.empty k.noted
         (with_empty h a classes q (x.takes classes fits)) (y.takes classes fits));
   }
 
-  pub tight_front : (h : Head) → h.empty ≡ true → ((classes : Classes) → IsTight (grammar_in p) classes m) → HasHead p m a h → HasFront p m a h
+  pub tight_front : (h : FirstSet) → h.empty ≡ true → ((classes : Classes) → IsTight (grammar_in p) classes m) → HasFirstSet p m a h → HasFront p m a h
   tight_front h q tight x = record {
     takes = λ classes fits. tight_takes (grammar_in p) classes m a b h.ranges.items h.noted (tight classes) (with_empty h a classes q (x.takes classes fits));
   }
 
-  pub gap_front : (h k j : Head) → h.empty ≡ true → m ≡ NonAtomicMode → IsJoin h k j → HasHead p m a h → IsGapHead p k → HasFront p m a j
+  pub gap_front : (h k j : FirstSet) → h.empty ≡ true → m ≡ NonAtomicMode → IsJoin h k j → HasFirstSet p m a h → IsGapFirstSet p k → HasFront p m a j
   gap_front h k j q e joined x y = record {
     takes = λ classes fits.
         let z = subst (λ i. TakesNothing (grammar_in p) classes (Skipping i) k.ranges.items true k.noted) (sym e) (y.takes classes fits) in
@@ -293,65 +293,65 @@ module _ (p : Program) (m : Mode) (a b : Expression) where
         (subst (λ n. (s : State) → Misses (h.ranges.items ++ k.ranges.items) s.rest → HaveTaken (grammar_in p) classes m a s n) (sym joined.noted) w);
   }
 
-  pub both_head : (h k j : Head) → IsJoin h k j → HasFront p m a h → HasHead p m b k → HasHead p m (Seq a b) j
-  both_head h k j joined x y = record {
+  pub both_first_set : (h k j : FirstSet) → IsJoin h k j → HasFront p m a h → HasFirstSet p m b k → HasFirstSet p m (Seq a b) j
+  both_first_set h k j joined x y = record {
     takes = λ classes fits.
         joined_as (Seq a b) classes h k j joined (both_take (grammar_in p) classes m a b h.ranges.items k.ranges.items h.noted k.empty k.noted
         (x.takes classes fits) (y.takes classes fits));
   }
 
-  -- another head with the ranges of the operand's, where nothing is taken
-  spared_as : (e : Expression) (h j : Head) → j.ranges.items ≡ h.ranges.items → j.empty ≡ true → j.noted ≡ h.noted
-      → ((classes : Classes) → Fits p.properties.items classes → TakesNothing (grammar_in p) classes (Run m e) h.ranges.items true h.noted) → HasHead p m e j
+  -- another FIRST set with the ranges of the operand's, where nothing is taken
+  spared_as : (e : Expression) (h j : FirstSet) → j.ranges.items ≡ h.ranges.items → j.empty ≡ true → j.noted ≡ h.noted
+      → ((classes : Classes) → Fits p.properties.items classes → TakesNothing (grammar_in p) classes (Run m e) h.ranges.items true h.noted) → HasFirstSet p m e j
   spared_as e h j r q n x = record {
     takes = λ classes fits.
         with_empty j e classes (sym q) (subst (λ n. TakesNothing (grammar_in p) classes (Run m e) j.ranges.items true n) (sym n)
         (subst (λ r. TakesNothing (grammar_in p) classes (Run m e) r true h.noted) (sym r) (x classes fits)));
   }
 
-  pub repetition_head : (h j : Head) → j.ranges.items ≡ h.ranges.items → j.empty ≡ true → j.noted ≡ h.noted → h.empty ≡ false → HasHead p m a h → HasHead p m (Rep a) j
-  repetition_head h j r q n f x = spared_as (Rep a) h j r q n
+  pub repetition_first_set : (h j : FirstSet) → j.ranges.items ≡ h.ranges.items → j.empty ≡ true → j.noted ≡ h.noted → h.empty ≡ false → HasFirstSet p m a h → HasFirstSet p m (Rep a) j
+  repetition_first_set h j r q n f x = spared_as (Rep a) h j r q n
       (λ classes fits. repetition_takes (grammar_in p) classes m a h.ranges.items h.noted (with_empty h a classes f (x.takes classes fits)))
 
-  pub negation_head : (h j : Head) → j.ranges.items ≡ h.ranges.items → j.empty ≡ true → j.noted ≡ h.noted → h.empty ≡ false → HasHead p m a h → HasHead p m (NegPred a) j
-  negation_head h j r q n f x = spared_as (NegPred a) h j r q n
+  pub negation_first_set : (h j : FirstSet) → j.ranges.items ≡ h.ranges.items → j.empty ≡ true → j.noted ≡ h.noted → h.empty ≡ false → HasFirstSet p m a h → HasFirstSet p m (NegPred a) j
+  negation_first_set h j r q n f x = spared_as (NegPred a) h j r q n
       (λ classes fits. negation_takes (grammar_in p) classes m a h.ranges.items h.noted (with_empty h a classes f (x.takes classes fits)))
 
-  pub tag_head : (h : Head) (t : Text) → HasHead p m a h → HasHead p m (NodeTag a t) h
-  tag_head h t x = record { takes = λ classes fits. tag_takes (grammar_in p) classes m a t h.ranges.items h.empty h.noted (x.takes classes fits) }
+  pub tag_first_set : (h : FirstSet) (t : Text) → HasFirstSet p m a h → HasFirstSet p m (NodeTag a t) h
+  tag_first_set h t x = record { takes = λ classes fits. tag_takes (grammar_in p) classes m a t h.ranges.items h.empty h.noted (x.takes classes fits) }
 
-  pub restore_head : (h : Head) → HasHead p m a h → HasHead p m (RestoreOnErr a) h
-  restore_head h x = record { takes = λ classes fits. restore_takes (grammar_in p) classes m a h.ranges.items h.empty h.noted (x.takes classes fits) }
+  pub restore_first_set : (h : FirstSet) → HasFirstSet p m a h → HasFirstSet p m (RestoreOnErr a) h
+  restore_first_set h x = record { takes = λ classes fits. restore_takes (grammar_in p) classes m a h.ranges.items h.empty h.noted (x.takes classes fits) }
 
-  pub option_head : (h j : Head) → j.ranges.items ≡ h.ranges.items → j.empty ≡ true → j.noted ≡ h.noted → HasHead p m a h → HasHead p m (Opt a) j
-  option_head h j r q n x = spared_as (Opt a) h j r q n (λ classes fits. option_takes (grammar_in p) classes m a h.ranges.items h.empty h.noted (x.takes classes fits))
+  pub option_first_set : (h j : FirstSet) → j.ranges.items ≡ h.ranges.items → j.empty ≡ true → j.noted ≡ h.noted → HasFirstSet p m a h → HasFirstSet p m (Opt a) j
+  option_first_set h j r q n x = spared_as (Opt a) h j r q n (λ classes fits. option_takes (grammar_in p) classes m a h.ranges.items h.empty h.noted (x.takes classes fits))
 
-  pub once_head : (h : Head) → h.empty ≡ false → HasHead p m a h → HasHead p m (RepOnce a) h
-  once_head h q x = record {
+  pub once_first_set : (h : FirstSet) → h.empty ≡ false → HasFirstSet p m a h → HasFirstSet p m (RepOnce a) h
+  once_first_set h q x = record {
     takes = λ classes fits.
         with_empty h (RepOnce a) classes (sym q) (once_takes (grammar_in p) classes m a h.ranges.items h.noted (with_empty h a classes q (x.takes classes fits)));
   }
 
-pub call_head : (p : Program) (m : Mode) (x : Text) (r : Rule) (body head : Head) (counts : Bool) → rule_of (grammar_in p) x ≡ Some r
-    → counts ≡ (seen_from m && gives_token r.type_of m) → counts ≡ gives_token r.type_of m → HasHead p (body_mode r m) r.body body → IsCall body counts head → HasHead p m (Ident x) head
-call_head p m x r body head counts e c v has is = record {
+pub call_first_set : (p : Program) (m : Mode) (x : Text) (r : Rule) (body first_set : FirstSet) (counts : Bool) → rule_of (grammar_in p) x ≡ Some r
+    → counts ≡ (seen_from m && gives_token r.type_of m) → counts ≡ gives_token r.type_of m → HasFirstSet p (body_mode r m) r.body body → IsCall body counts first_set → HasFirstSet p m (Ident x) first_set
+call_first_set p m x r body first_set counts e c v has is = record {
   takes = λ classes fits.
       let y = subst (λ v. TakesNothing (grammar_in p) classes (Run (body_mode r m) r.body) body.ranges.items v body.noted) is.takes (has.takes classes fits) in
       let z = call_takes (grammar_in p) classes m x r body.ranges.items body.noted counts e c v y in
-      subst (λ n. TakesNothing (grammar_in p) classes (Run m (Ident x)) head.ranges.items head.empty n) (sym is.noted)
-      (subst (λ v. TakesNothing (grammar_in p) classes (Run m (Ident x)) head.ranges.items v (counts || body.noted)) (sym is.fails)
+      subst (λ n. TakesNothing (grammar_in p) classes (Run m (Ident x)) first_set.ranges.items first_set.empty n) (sym is.noted)
+      (subst (λ v. TakesNothing (grammar_in p) classes (Run m (Ident x)) first_set.ranges.items v (counts || body.noted)) (sym is.fails)
       (subst (λ r. TakesNothing (grammar_in p) classes (Run m (Ident x)) r false (counts || body.noted)) (sym is.ranges) z));
 }
 
--- the head of a body
+-- the FIRST set of a body
 pub row_has : (p : Program) (rule : ℕ) (row : Row) (within : rule < length p.rows.items) (is : row ≡ get_or p.rows.items rule row) → IsSoundProgram p
-    → (m inner : Mode) → inner ≡ mode_in (rule_type_of row.kind) row.blank m → (heads : List (Option Head)) → AreHeadsIn p inner heads
-    → (body : Head) → get_or heads rule None ≡ Some body → HasHead p (body_mode (made p rule row within is) m) (made p rule row within is).body body
-row_has p rule row within is sound m inner e heads are body k =
-    let x : HasHead p inner (said p (get_or p.rows.items rule row).body) body =
-    subst (λ o. IfSome o (HasHead p inner (said p (get_or p.rows.items rule row).body))) k (are rule row within) in
-    let y = subst (λ r. HasHead p inner (said p r.body) body) (sym is) x in
-    subst (λ z. HasHead p z (said p row.body) body) (in_mode p rule row within is sound m inner e) y
+    → (m inner : Mode) → inner ≡ mode_in (rule_type_of row.kind) row.blank m → (first_sets : List (Option FirstSet)) → AreFirstSetsIn p inner first_sets
+    → (body : FirstSet) → get_or first_sets rule None ≡ Some body → HasFirstSet p (body_mode (made p rule row within is) m) (made p rule row within is).body body
+row_has p rule row within is sound m inner e first_sets are body k =
+    let x : HasFirstSet p inner (said p (get_or p.rows.items rule row).body) body =
+    subst (λ o. IfSome o (HasFirstSet p inner (said p (get_or p.rows.items rule row).body))) k (are rule row within) in
+    let y = subst (λ r. HasFirstSet p inner (said p r.body) body) (sym is) x in
+    subst (λ z. HasFirstSet p z (said p row.body) body) (in_mode p rule row within is sound m inner e) y
 
 -- what holds of a value that is made
 pub if_made : {A E : Type 0} {P Q : A → Type 0} (r : Result (Option A) E) → ((x : A) → P x → Q x) → IfOk r (λ made. IfSome made P) → IfOk r (λ made. IfSome made Q)
@@ -359,30 +359,30 @@ if_made (Ok (Some x)) f h = f x h
 if_made (Ok None) f h = tt
 if_made (Err e) f h = tt
 
--- another head of a body
-pub heads_put : (p : Program) (m : Mode) (list new : List (Option Head)) (rule : ℕ) (head : Option Head) → new ≡ set list rule head → rule < length list
-    → AreHeadsIn p m list → ((d : Row) → rule < length p.rows.items → IfSome head (HasHead p m (said p (get_or p.rows.items rule d).body))) → AreHeadsIn p m new
-heads_put p m list new rule head e within are one i d l = elim (cases_lt i rule) [
+-- another FIRST set of a body
+pub first_sets_put : (p : Program) (m : Mode) (list new : List (Option FirstSet)) (rule : ℕ) (first_set : Option FirstSet) → new ≡ set list rule first_set → rule < length list
+    → AreFirstSetsIn p m list → ((d : Row) → rule < length p.rows.items → IfSome first_set (HasFirstSet p m (said p (get_or p.rows.items rule d).body))) → AreFirstSetsIn p m new
+first_sets_put p m list new rule first_set e within are one i d l = elim (cases_lt i rule) [
   | inl a ↦ other (λ q. omega (arith, a, q))
   | inr a ↦ elim (cases_lt rule i) [ inl b ↦ other (λ q. omega (arith, b, q)) | inr b ↦ here (omega (arith, a, b)) ]
 ]
   where
-    other : (i ≡ rule → ⊥) → IfSome (get_or new i None) (HasHead p m (said p (get_or p.rows.items i d).body))
+    other : (i ≡ rule → ⊥) → IfSome (get_or new i None) (HasFirstSet p m (said p (get_or p.rows.items i d).body))
     other apart =
-        subst (λ o. IfSome o (HasHead p m (said p (get_or p.rows.items i d).body))) (sym (ap (λ x. get_or x i None) e ∙ get_or-set_other list rule i head None apart)) (are i d l)
+        subst (λ o. IfSome o (HasFirstSet p m (said p (get_or p.rows.items i d).body))) (sym (ap (λ x. get_or x i None) e ∙ get_or-set_other list rule i first_set None apart)) (are i d l)
 
-    here : rule ≡ i → IfSome (get_or new i None) (HasHead p m (said p (get_or p.rows.items i d).body))
+    here : rule ≡ i → IfSome (get_or new i None) (HasFirstSet p m (said p (get_or p.rows.items i d).body))
     here q =
-        subst (λ j. IfSome (get_or new j None) (HasHead p m (said p (get_or p.rows.items j d).body))) q
-        (subst (λ o. IfSome o (HasHead p m (said p (get_or p.rows.items rule d).body))) (sym (ap (λ x. get_or x rule None) e ∙ get_or-set_same list rule head None within))
+        subst (λ j. IfSome (get_or new j None) (HasFirstSet p m (said p (get_or p.rows.items j d).body))) q
+        (subst (λ o. IfSome o (HasFirstSet p m (said p (get_or p.rows.items rule d).body))) (sym (ap (λ x. get_or x rule None) e ∙ get_or-set_same list rule first_set None within))
         (one d (omega (arith, q, l))))
 
--- lists without a head
+-- lists without a FIRST set
 pub none_more : {A : Type 0} (xs : List (Option A)) (k : ℕ) → ((j : ℕ) → get_or xs j None ≡ None) → get_or (xs ++ None ∷ []) k None ≡ None
 none_more [] zero h = refl
 none_more [] (suc k) h = refl
 none_more (x ∷ xs) zero h = h 0
 none_more (x ∷ xs) (suc k) h = none_more xs k (λ j. h (suc j))
 
-pub no_heads : (p : Program) (m : Mode) (list : List (Option Head)) → ((k : ℕ) → get_or list k None ≡ None) → AreHeadsIn p m list
-no_heads p m list h i d l = subst (λ o. IfSome o (HasHead p m (said p (get_or p.rows.items i d).body))) (sym (h i)) tt
+pub no_first_sets : (p : Program) (m : Mode) (list : List (Option FirstSet)) → ((k : ℕ) → get_or list k None ≡ None) → AreFirstSetsIn p m list
+no_first_sets p m list h i d l = subst (λ o. IfSome o (HasFirstSet p m (said p (get_or p.rows.items i d).body))) (sym (h i)) tt

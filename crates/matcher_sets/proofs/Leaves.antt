@@ -39,9 +39,9 @@ use Rattle.matcher_sets.specs.Forms.{IsBoundIn, grammar_in, said}
 
 -- characters that ranges cover, of a text
 module _ (ranges : List (ℕ × ℕ)) (set : ℕ → Bool) (covers : Covers ranges set) where
-  covered_head : (cs : Text) → scalars cs ≡ true → starts_in (is_covered ranges) cs ≡ starts_in set cs
-  covered_head [] u = refl
-  covered_head (c ∷ cs) u = covers c (below c (and_parts (scalar c) (scalars cs) u).0)
+  covered_first_set : (cs : Text) → scalars cs ≡ true → starts_in (is_covered ranges) cs ≡ starts_in set cs
+  covered_first_set [] u = refl
+  covered_first_set (c ∷ cs) u = covers c (below c (and_parts (scalar c) (scalars cs) u).0)
 
   covered_span : (cs : Text) → scalars cs ≡ true → span_of (is_covered ranges) cs ≡ span_of set cs
   covered_span [] u = refl
@@ -56,7 +56,7 @@ module _ (ranges : List (ℕ × ℕ)) (set : ℕ → Bool) (covers : Covers rang
     pub one_as : (l n w : ℕ) → at_label code l ≡ op.One i n w → Performs code number l n w (character_outcome set) in_silence
     one_as l n w h text s c at safe =
         subst (λ o. Comes code text number l n w o no_failure 1 8 c)
-        (ap (λ b. if b then Success (moved 1 s) None' else Failure) (covered_head s.rest (rest_scalars text s c.at at)))
+        (ap (λ b. if b then Success (moved 1 s) None' else Failure) (covered_first_set s.rest (rest_scalars text s c.at at)))
         (one_performs code i ranges is number fail l n w h text s c at safe)
 
     pub all_as : (l n w : ℕ) → at_label code l ≡ op.All i n → Performs code number l n w (skip_set set) in_silence

@@ -18,9 +18,9 @@ use Rattle.matcher_code.specs.Steps.{one_place}
 use Rattle.matcher_program.specs.declared.form.Program.{Program}
 use Rattle.matcher_program.specs.declared.form.Row.{Row}
 use Rattle.matcher_program.specs.Programs.{Fits, IsRuleOf, name_at, names_of, rule_of_row}
-use Rattle.matcher_sets.specs.declared.heads.Head.{Head}
+use Rattle.matcher_sets.specs.declared.first_sets.FirstSet.{FirstSet}
 use Rattle.matcher_sets.specs.Forms.{grammar_in, no_rule}
-use Rattle.matcher_sets.specs.Heads.{HasHead, IsGapHead, IsJoin, IsSkipHead, TakesNothing}
+use Rattle.matcher_sets.specs.FirstSets.{HasFirstSet, IsGapFirstSet, IsJoin, IsSkipFirstSet, TakesNothing}
 use Rattle.matcher_sets.proofs.Heading.{fails_outside, greater_place, misses_parts}
 use Rattle.matcher_sets.proofs.Leaves.{other_failures}
 use Rattle.matcher_sets.proofs.Recording.{three_unless}
@@ -120,9 +120,9 @@ module _ (p : Program) (x : Text) (i : ℕ) (meant : IsRuleOf (grammar_in p) x i
   pub rule_is_skipped : IsSkipName x → IsSkipName (get_or (grammar_in p) i no_rule).name
   rule_is_skipped blank = subst IsSkipName (sym (meant.named no_rule)) blank
 
-  -- where no character of its head is next, the call fails
-  pub skipped_fails : IsSkipName x → (h : Head) → HasHead p NonAtomicMode (Ident (name_at (names_of p.rows.items) i)) h → h.empty ≡ false
-      → IsSkipHead p x h
+  -- where no character of its FIRST set is next, the call fails
+  pub skipped_fails : IsSkipName x → (h : FirstSet) → HasFirstSet p NonAtomicMode (Ident (name_at (names_of p.rows.items) i)) h → h.empty ≡ false
+      → IsSkipFirstSet p x h
   skipped_fails blank h has q = record { fails = fails }
     where
       fails : (classes : Classes) → Fits p.properties.items classes → FailsOutside (grammar_in p) classes (Run Between (Ident x)) h.ranges.items h.noted
@@ -145,7 +145,7 @@ zero_between : (a b : ℕ) → max a (max 0 b) ≡ max a b
 zero_between a b = omega arith
 
 -- where neither a blank nor a comment can begin, nothing is skipped
-pub gap_takes : (p : Program) (h k j : Head) → IsSkipHead p whitespace h → IsSkipHead p comment k → IsJoin h k j → IsGapHead p j
+pub gap_takes : (p : Program) (h k j : FirstSet) → IsSkipFirstSet p whitespace h → IsSkipFirstSet p comment k → IsJoin h k j → IsGapFirstSet p j
 gap_takes p h k j b n joined = record { takes = takes }
   where
     takes : (classes : Classes) → Fits p.properties.items classes → TakesNothing (grammar_in p) classes (Skipping NonAtomicMode) j.ranges.items true j.noted

@@ -33,9 +33,9 @@ is_not_empty : (t : Text) (c : ℕ) → ((d : ℕ) → starts_in (λ e. nat_eq e
 is_not_empty [] c h = let z : false ≡ true = h c ∙ same_self c in cc
 is_not_empty (x ∷ t) c h = refl
 
-head_is : (t : Text) (c d : ℕ) (u : Text) → ((e : ℕ) → starts_in (λ x. nat_eq x e) t ≡ nat_eq c e) → begins nat_eq t (d ∷ u) ≡ true → nat_eq c d ≡ true
-head_is [] c d u h b = let z : false ≡ true = h c ∙ same_self c in cc
-head_is (x ∷ t) c d u h b = sym (h d) ∙ (and_parts (nat_eq x d) (begins nat_eq t u) b).0
+first_set_is : (t : Text) (c d : ℕ) (u : Text) → ((e : ℕ) → starts_in (λ x. nat_eq x e) t ≡ nat_eq c e) → begins nat_eq t (d ∷ u) ≡ true → nat_eq c d ≡ true
+first_set_is [] c d u h b = let z : false ≡ true = h c ∙ same_self c in cc
+first_set_is (x ∷ t) c d u h b = sym (h d) ∙ (and_parts (nat_eq x d) (begins nat_eq t u) b).0
 
 or_cases : (a b : Bool) → (a || b) ≡ true → (a ≡ false → b ≡ true)
 or_cases true b h e = cc
@@ -60,7 +60,7 @@ more_starts texts i t old new c l here h first adds =
     go d u k true e f = adds d k ∙ ap (λ b. b || is_between c c d) (h.covered d u k e)
     go d u k false e f =
         let z = or_cases (any_begins (map ast.text_of (take i texts)) (d ∷ u)) (begins nat_eq (ast.text_of t) (d ∷ u)) f e in
-        let y = head_is (ast.text_of t) c d u first z in
+        let y = first_set_is (ast.text_of t) c d u first z in
         adds d k ∙ (ap (λ b. is_covered old d || b) (between_same c d ∙ y) ∙ or_true (is_covered old d))
       where
         or_true : (b : Bool) → (b || true) ≡ true

@@ -2,4 +2,4 @@ pub mod Modes
 pub mod Forms
 pub mod Ranges
 pub mod Differences
-pub mod Heads
+pub mod FirstSets

@@ -1,4 +1,4 @@
-//! Heads of rules and of the implicit skipping.
+//! FIRST sets of rules and of the implicit skipping.
 ghost use Rattle.std.specs.Prelude.{◌<◌, IfOk, IfSome, OnOk, get_or, length};
 ghost use Rattle.base_language.specs.Language.Expression.{comment, whitespace};
 ghost use Rattle.base_language.specs.Language.State.{Mode};
@@ -6,57 +6,64 @@ ghost use Rattle.matcher_program.specs.Programs.{IsKnown, IsSkippedRule};
 ghost use Rattle.matcher_program.specs.declared.form.Program.{Program};
 ghost use Rattle.matcher_program.specs.declared.form.Row.{Row};
 ghost use Rattle.matcher_sets.specs.Forms.{IsSoundProgram, grammar_in, said};
-ghost use Rattle.matcher_sets.specs.Heads.{AreHeads, AreHeadsIn, HasHead, IsGapHead, IsSkipHead};
+ghost use Rattle.matcher_sets.specs.FirstSets.{AreFirstSets, AreFirstSetsIn, HasFirstSet, IsGapFirstSet, IsSkipFirstSet};
 ghost use Rattle.matcher_sets.specs.Modes.{mode_of};
 
-use crate::heads::{DEPTH, Head, Heads, call_head, form_head, heads_in, join, rule_head};
+use crate::first_sets::{
+    DEPTH, FirstSet, FirstSets, call_first_set, first_sets_in, form_first_set, join, rule_first_set,
+};
 use crate::modes::{Atomicity, has_body_in};
 use matcher_program::form::Program;
 use std::alloc::{AllocError, Global};
 
-/// How often the heads of all rules are looked for.
+/// How often the FIRST sets of all rules are looked for.
 const ROUNDS: u32 = 3;
 
-/// Sets the head of a body.
-fn put(list: &mut Vec<Option<Head>>, rule: usize, head: Option<Head>)
-    ensures { (p : Program) (m : Mode) → AreHeadsIn p m list.old.items
+/// Sets the FIRST set of a body.
+fn put(list: &mut Vec<Option<FirstSet>>, rule: usize, first_set: Option<FirstSet>)
+    ensures { (p : Program) (m : Mode) → AreFirstSetsIn p m list.old.items
         → ((d : Row) → rule < length p.rows.items
-        → IfSome head (HasHead p m (said p (get_or p.rows.items rule d).body)))
-        → AreHeadsIn p m list.new.items }
+        → IfSome first_set (HasFirstSet p m (said p (get_or p.rows.items rule d).body)))
+        → AreFirstSetsIn p m list.new.items }
 {
     if rule < list.len() {
-        list[rule] = head;
+        list[rule] = first_set;
     }
 }
 
-/// Sets the head of a body in a mode.
-fn set_head(heads: &mut Heads, rule: usize, mode: Atomicity, head: Option<Head>)
-    ensures { (p : Program) → AreHeads p heads.old
+/// Sets the FIRST set of a body in a mode.
+fn set_first_set(
+    first_sets: &mut FirstSets,
+    rule: usize,
+    mode: Atomicity,
+    first_set: Option<FirstSet>,
+)
+    ensures { (p : Program) → AreFirstSets p first_sets.old
         → ((d : Row) → rule < length p.rows.items
-        → IfSome head (HasHead p (mode_of mode) (said p (get_or p.rows.items rule d).body)))
-        → AreHeads p heads.new }
+        → IfSome first_set (HasFirstSet p (mode_of mode) (said p (get_or p.rows.items rule d).body)))
+        → AreFirstSets p first_sets.new }
 {
     match mode {
-        Atomicity::NonAtomic => put(&mut heads.non_atomic, rule, head),
-        Atomicity::Atomic => put(&mut heads.atomic, rule, head),
-        Atomicity::CompoundAtomic => put(&mut heads.compound_atomic, rule, head),
+        Atomicity::NonAtomic => put(&mut first_sets.non_atomic, rule, first_set),
+        Atomicity::Atomic => put(&mut first_sets.atomic, rule, first_set),
+        Atomicity::CompoundAtomic => put(&mut first_sets.compound_atomic, rule, first_set),
     }
 }
 
-/// Looks for the head of a body in a mode, if it is not known and the rule has a body in that mode. Returns
-/// whether it was found.
+/// Looks for the FIRST set of a body in a mode, if it is not known and the rule has a body in that mode.
+/// Returns whether it was found.
 fn learn(
     alloc: Global,
     program: &Program,
-    heads: &mut Heads,
+    first_sets: &mut FirstSets,
     rule: usize,
     mode: Atomicity,
 ) -> Result<bool, AllocError>
     requires sound { IsSoundProgram program.now }
-    requires heads { AreHeads program.now heads.old }
-    ensures { OnOk result (AreHeads program.now heads.new) }
+    requires first_sets { AreFirstSets program.now first_sets.old }
+    ensures { OnOk result (AreFirstSets program.now first_sets.new) }
 {
-    if rule_head(heads_in(heads, mode), rule).is_some() {
+    if rule_first_set(first_sets_in(first_sets, mode), rule).is_some() {
         return Ok(false);
     }
     let row = match program.rows.get(rule) {
@@ -66,112 +73,127 @@ fn learn(
     if !has_body_in(row, mode) {
         return Ok(false);
     }
-    let made = form_head(alloc, program, heads, &row.body, mode, DEPTH)?;
+    let made = form_first_set(alloc, program, first_sets, &row.body, mode, DEPTH)?;
     let is_found = made.is_some();
-    set_head(heads, rule, mode, made);
+    set_first_set(first_sets, rule, mode, made);
     Ok(is_found)
 }
 
-/// Looks for the heads of the bodies of a rule. Returns whether one was found.
+/// Looks for the FIRST sets of the bodies of a rule. Returns whether one was found.
 fn learn_rule(
     alloc: Global,
     program: &Program,
-    heads: &mut Heads,
+    first_sets: &mut FirstSets,
     rule: usize,
 ) -> Result<bool, AllocError>
     requires sound { IsSoundProgram program.now }
-    requires heads { AreHeads program.now heads.old }
-    ensures { OnOk result (AreHeads program.now heads.new) }
+    requires first_sets { AreFirstSets program.now first_sets.old }
+    ensures { OnOk result (AreFirstSets program.now first_sets.new) }
 {
-    let loose = learn(alloc, program, heads, rule, Atomicity::NonAtomic)?;
-    let atomic = learn(alloc, program, heads, rule, Atomicity::Atomic)?;
-    let compound = learn(alloc, program, heads, rule, Atomicity::CompoundAtomic)?;
+    let loose = learn(alloc, program, first_sets, rule, Atomicity::NonAtomic)?;
+    let atomic = learn(alloc, program, first_sets, rule, Atomicity::Atomic)?;
+    let compound = learn(alloc, program, first_sets, rule, Atomicity::CompoundAtomic)?;
     Ok(loose || atomic || compound)
 }
 
-/// Looks for the heads of all bodies, the last rule first. Returns whether one was found.
-fn learn_all(alloc: Global, program: &Program, heads: &mut Heads) -> Result<bool, AllocError>
+/// Looks for the FIRST sets of all bodies, the last rule first. Returns whether one was found.
+fn learn_all(
+    alloc: Global,
+    program: &Program,
+    first_sets: &mut FirstSets,
+) -> Result<bool, AllocError>
     requires sound { IsSoundProgram program.now }
-    requires heads { AreHeads program.now heads.old }
-    ensures { OnOk result (AreHeads program.now heads.new) }
+    requires first_sets { AreFirstSets program.now first_sets.old }
+    ensures { OnOk result (AreFirstSets program.now first_sets.new) }
 {
     let mut is_found = false;
     let mut below = program.rows.len();
     while below > 0 {
         below -= 1;
-        if learn_rule(alloc, program, heads, below)? {
+        if learn_rule(alloc, program, first_sets, below)? {
             is_found = true;
         }
     }
     Ok(is_found)
 }
 
-/// Returns the head of a call of a rule of the implicit skipping, which takes something. Without such a rule
-/// there is no call, as if it failed everywhere.
-fn skip_head(
+/// Returns the FIRST set of a call of a rule of the implicit skipping, which takes something. Without such a
+/// rule there is no call, as if it failed everywhere.
+fn skip_first_set(
     alloc: Global,
     program: &Program,
-    heads: &Heads,
+    first_sets: &FirstSets,
     rule: Option<usize>,
-) -> Result<Option<Head>, AllocError>
+) -> Result<Option<FirstSet>, AllocError>
     requires sound { IsSoundProgram program.now }
-    requires heads { AreHeads program.now heads.now }
+    requires first_sets { AreFirstSets program.now first_sets.now }
     requires known { IsKnown (grammar_in program.now) rule }
-    ensures blank { IfOk result (λ made. IfSome made (λ head.
-        IsSkippedRule (grammar_in program.now) whitespace rule → IsSkipHead program.now whitespace head)) }
-    ensures note { IfOk result (λ made. IfSome made (λ head.
-        IsSkippedRule (grammar_in program.now) comment rule → IsSkipHead program.now comment head)) }
+    ensures blank { IfOk result (λ made. IfSome made (λ first_set.
+        IsSkippedRule (grammar_in program.now) whitespace rule
+        → IsSkipFirstSet program.now whitespace first_set)) }
+    ensures note { IfOk result (λ made. IfSome made (λ first_set.
+        IsSkippedRule (grammar_in program.now) comment rule → IsSkipFirstSet program.now comment first_set)) }
 {
     let number = match rule {
         Some(number) => number,
         None => {
             let ranges = Vec::new(alloc);
-            return Ok(Some(Head {
+            return Ok(Some(FirstSet {
                 ranges,
                 empty: false,
                 noted: false,
             }));
         }
     };
-    let made = call_head(alloc, program, heads, number, Atomicity::NonAtomic)?;
+    let made = call_first_set(alloc, program, first_sets, number, Atomicity::NonAtomic)?;
     match made {
-        Some(head) => { if head.empty { Ok(None) } else { Ok(Some(head)) } }
+        Some(first_set) => {
+            if first_set.empty {
+                Ok(None)
+            } else {
+                Ok(Some(first_set))
+            }
+        }
         None => Ok(None),
     }
 }
 
-/// Returns the head of the implicit skipping in NonAtomic, by those of blanks and comments.
-fn gap_head(alloc: Global, program: &Program, heads: &Heads) -> Result<Option<Head>, AllocError>
+/// Returns the FIRST set of the implicit skipping in NonAtomic, by those of blanks and comments.
+fn gap_first_set(
+    alloc: Global,
+    program: &Program,
+    first_sets: &FirstSets,
+) -> Result<Option<FirstSet>, AllocError>
     requires sound { IsSoundProgram program.now }
-    requires heads { AreHeads program.now heads.now }
-    ensures { IfOk result (λ made. IfSome made (IsGapHead program.now)) }
+    requires first_sets { AreFirstSets program.now first_sets.now }
+    ensures { IfOk result (λ made. IfSome made (IsGapFirstSet program.now)) }
 {
-    let blanks = skip_head(alloc, program, heads, program.whitespace)?;
+    let blanks = skip_first_set(alloc, program, first_sets, program.whitespace)?;
     let blank = match blanks {
         Some(blank) => blank,
         None => return Ok(None),
     };
-    let comments = skip_head(alloc, program, heads, program.comment)?;
+    let comments = skip_first_set(alloc, program, first_sets, program.comment)?;
     match comments {
         Some(note) => join(blank, &note),
         None => Ok(None),
     }
 }
 
-/// Looks for the head of the implicit skipping.
-fn learn_gap(alloc: Global, program: &Program, heads: &mut Heads) -> Result<(), AllocError>
+/// Looks for the FIRST set of the implicit skipping.
+fn learn_gap(alloc: Global, program: &Program, first_sets: &mut FirstSets) -> Result<(), AllocError>
     requires sound { IsSoundProgram program.now }
-    requires heads { AreHeads program.now heads.old }
-    ensures { OnOk result (AreHeads program.now heads.new) }
+    requires first_sets { AreFirstSets program.now first_sets.old }
+    ensures { OnOk result (AreFirstSets program.now first_sets.new) }
 {
-    let made = gap_head(alloc, program, heads)?;
-    heads.gap = made;
+    let made = gap_first_set(alloc, program, first_sets)?;
+    first_sets.gap = made;
     Ok(())
 }
 
-/// Returns a list without a known head.
-fn none_known(alloc: Global, rules: usize) -> Result<Vec<Option<Head>>, AllocError>
-    ensures { IfOk result (λ list. (p : Program) (m : Mode) → AreHeadsIn p m list.items) }
+/// Returns a list without a known FIRST set.
+fn none_known(alloc: Global, rules: usize) -> Result<Vec<Option<FirstSet>>, AllocError>
+    ensures { IfOk result (λ list. (p : Program) (m : Mode) → AreFirstSetsIn p m list.items) }
 {
     let mut list = Vec::new(alloc);
     'rules: for _ in 0..rules {
@@ -180,17 +202,21 @@ fn none_known(alloc: Global, rules: usize) -> Result<Vec<Option<Head>>, AllocErr
     Ok(list)
 }
 
-/// Returns the heads of the bodies of rules, as far as three rounds find them, or fewer if one finds nothing
-/// more. The only error is an allocation failure.
-pub fn rule_heads(alloc: Global, program: &Program, calls_all: bool) -> Result<Heads, AllocError>
+/// Returns the FIRST sets of the bodies of rules, as far as three rounds find them, or fewer if one finds
+/// nothing more. The only error is an allocation failure.
+pub fn rule_first_sets(
+    alloc: Global,
+    program: &Program,
+    calls_all: bool,
+) -> Result<FirstSets, AllocError>
     requires sound { IsSoundProgram program.now }
-    ensures { IfOk result (AreHeads program.now) }
+    ensures { IfOk result (AreFirstSets program.now) }
 {
     let rules = program.rows.len();
     let non_atomic = none_known(alloc, rules)?;
     let atomic = none_known(alloc, rules)?;
     let compound_atomic = none_known(alloc, rules)?;
-    let mut heads = Heads {
+    let mut first_sets = FirstSets {
         non_atomic,
         atomic,
         compound_atomic,
@@ -198,11 +224,11 @@ pub fn rule_heads(alloc: Global, program: &Program, calls_all: bool) -> Result<H
         calls_all,
     };
     'rounds: for round in 0..ROUNDS {
-        let is_found = learn_all(alloc, program, &mut heads)?;
+        let is_found = learn_all(alloc, program, &mut first_sets)?;
         if round > 0 && !is_found {
-            return Ok(heads);
+            return Ok(first_sets);
         }
-        learn_gap(alloc, program, &mut heads)?;
+        learn_gap(alloc, program, &mut first_sets)?;
     }
-    Ok(heads)
+    Ok(first_sets)
 }

@@ -3,7 +3,7 @@
 
 pub mod characters;
 pub mod difference;
-pub mod heads;
+pub mod first_sets;
 pub mod learning;
 pub mod modes;
 mod ranges;

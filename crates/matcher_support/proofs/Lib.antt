@@ -3,14 +3,6 @@ pub mod Ranges
 pub mod JsonOfWalks
 pub mod LinesOfWalks
 pub mod NameLists
-pub mod Making
-pub mod Nesting
-pub mod Failing
-pub mod Tagging
-pub mod TagMaking
-pub mod Matching
-pub mod TagNesting
-pub mod Parsing
 pub mod Naming
 pub mod Splicing
 pub mod Wraps
@@ -21,10 +13,10 @@ pub mod Showing
 pub mod WrappedRules
 pub mod Rules
 pub mod Reading
+pub mod Tagging
 pub mod Untagged
 pub mod CompiledNames
 pub mod LineNumbers
-pub mod TagFailures
 pub mod CompiledRuns
 pub mod AttemptNumbers
 pub mod EachRow

@@ -13,7 +13,7 @@ use Rattle.matcher_code.specs.Attempts.{attempts_at}
 use Rattle.matcher_code.specs.Paths.{paths_at}
 use Rattle.matcher_code.specs.declared.state.OpenCall.{OpenCall}
 use Rattle.matcher_compiler.specs.Names.{number_in}
-use Rattle.matcher_engine.specs.Blocks.{HasRules, IsBlockOf, IsWhole}
+use Rattle.matcher_engine.specs.Blocks.{HasRules, IsBlockOf, IsWhole, operations_in}
 use Rattle.matcher_engine.specs.BlockRuns.{IsStopped}
 use Rattle.matcher_engine.specs.declared.block.runs.BlockStop.{BlockStop}
 use Rattle.matcher_engine.specs.declared.block.runs.BlockStop.TheVariants as stop
@@ -24,7 +24,7 @@ use Rattle.matcher_program.specs.Answers.{Has, start_of}
 use Rattle.matcher_program.specs.ExpectedNames.{each_once, name_texts}
 use Rattle.matcher_support.specs.Sets.{is_in_property}
 use Rattle.matcher_support.specs.declared.attempts.NamedAttempts.{NamedAttempts}
-use Rattle.matcher_support.specs.declared.compiled.CompiledRules.{CompiledRules}
+use Rattle.matcher_support.specs.declared.compiled.CompiledGrammar.{CompiledGrammar}
 
 -- the block of optimized rules, where property names have the sets of Unicode
 pub record IsCompiled (rules : List OptimizedRule) (block : List ℕ) : Type 0 where
@@ -33,9 +33,13 @@ pub record IsCompiled (rules : List OptimizedRule) (block : List ℕ) : Type 0 w
   pub has : HasRules block rules
 
 -- the block of a grammar, and the names of its rules in order
-pub record IsCompiledOf (g : Grammar) (it : CompiledRules) : Type 0 where
+pub record IsCompiledOf (g : Grammar) (it : CompiledGrammar) : Type 0 where
   pub code : IsBlockOf g is_in_property it.block.now
   pub names : AreNamesOf g it.names.items
+
+-- the number of operations of the code for matches
+abbrev pub operations_of : CompiledGrammar → ℕ
+operations_of it = operations_in it.block.now
 
 -- the names are those that are expected at a place of the text, each once, in the order of the calls
 abbrev pub AreExpectedIn : Grammar → List ℕ → List ℕ → ℕ → List (Bor (List ℕ)) → Type 0

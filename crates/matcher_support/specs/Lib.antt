@@ -6,13 +6,7 @@ pub mod Compiled
 pub mod Json
 pub mod Lines
 pub mod Expectations
-pub mod Trees
-pub mod Parses
 pub mod TagEntries
-pub mod TagTrees
-pub mod TagMatches
-pub mod TagParses
-pub mod TagMatchers
 pub mod Names
 pub mod Wrapped
 pub mod Frames

@@ -1,28 +1,26 @@
 //! Compiled grammars, run by the names of their rules.
-ghost use Rattle.std.specs.Prelude.{◌≡◌, List, ℕ, IfErr, IfOk, IsSomeAnd, Some, chars, map};
+ghost use Rattle.std.specs.Prelude.{◌≡◌, ◌≢◌, Err, List, ℕ, IfErr, IfOk, IsSomeAnd, Some, chars, length, map};
 ghost use Rattle.base_ast.specs.Optimized.{optimized_rules_of};
 ghost use Rattle.base_ast.specs.declared.optimized.OptimizedRule.{OptimizedRule};
 ghost use Rattle.base_language.specs.Language.Expression.{Grammar, last_place};
-ghost use Rattle.base_language.specs.Language.State.{Classes, State};
+ghost use Rattle.base_language.specs.Language.State.{Classes, Outcome, State};
 ghost use Rattle.base_language.specs.Language.Text.{Text};
 ghost use Rattle.matcher_compiler.specs.Names.{HaveNumbers, number_in};
+ghost use Rattle.matcher_engine.specs.Limits.{IsAmple, steps_of, turns_of};
 ghost use Rattle.matcher_engine.specs.Preorders.{HasPreorder};
-ghost use Rattle.matcher_engine.specs.Recognitions.{IsRecognition};
 ghost use Rattle.matcher_engine.specs.Walks.{AreNamesOf, visits, visits_left};
-ghost use Rattle.matcher_program.specs.Answers.{start_of};
+ghost use Rattle.matcher_program.specs.Answers.{Has, start_of};
 ghost use Rattle.matcher_program.specs.ExpectedNames.{name_texts};
-ghost use Rattle.matcher_support.specs.Compiled.{AreAttemptsIn, AreExpectedIn, ArePathsIn, IsCompiled, IsCompiledOf, IsRefusedBy, IsUnanswered};
+ghost use Rattle.matcher_support.specs.Compiled.{AreAttemptsIn, AreExpectedIn, ArePathsIn, IsCompiled, IsCompiledOf, IsRefusedBy, IsUnanswered, operations_of};
 ghost use Rattle.matcher_support.specs.Sets.{is_in_property};
 
 use crate::attempts::{NamedAttempts, name_attempts};
 use base_language::runtime::Span;
 use matcher_code::state::OpenCall;
 use matcher_engine::block::{
-    BlockStop, attempts_block, bound_block, expected_block, guide_block, paths_block,
-    recognize_block, rule_count, rule_name, run_block,
+    BlockStop, attempts_block, expected_block, paths_block, rule_count, rule_name, run_block,
 };
 use matcher_engine::matcher::Preorder;
-use matcher_engine::recognize::Recognition;
 use matcher_engine::walk::{TreeWalk, text_name, walk_names};
 use matcher_program::answers::Stop;
 use matcher_program::texts::same;
@@ -30,20 +28,22 @@ use std::alloc::{AllocError, Global};
 
 /// A compiled grammar: its block, and the names of its rules in order.
 #[derive(Drop)]
-pub struct CompiledRules<'b> {
+pub struct CompiledGrammar<'b> {
     block: &'b [u8],
     names: Vec<&'b str>,
 }
 
-impl<'b> CompiledRules<'b> {
-    /// Returns the compiled grammar of a block, or `None` if a name is not UTF-8. The only error is an
-    /// allocation failure, as which 2^32 rules count.
-    pub fn read(alloc: Global, block: &'b [u8]) -> Result<Option<CompiledRules<'b>>, AllocError>
+impl<'b> CompiledGrammar<'b> {
+    /// Reads the rule names of the block `block`. Returns `None` if a name is not UTF-8.
+    ///
+    /// # Errors
+    /// `AllocError` if an allocation fails, or if there are 2^32 rules or more.
+    pub fn read(alloc: Global, block: &'b [u8]) -> Result<Option<CompiledGrammar<'b>>, AllocError>
         ensures { IfOk result (λ made. (rules : List OptimizedRule) → IsCompiled rules block.entry.now
             → IsSomeAnd made (IsCompiledOf (optimized_rules_of rules))) }
     {
         match read_names(alloc, block)? {
-            Some(names) => Ok(Some(CompiledRules { block, names })),
+            Some(names) => Ok(Some(CompiledGrammar { block, names })),
             None => Ok(None),
         }
     }
@@ -55,13 +55,17 @@ impl<'b> CompiledRules<'b> {
         &self.names
     }
 
-    /// Returns the number of the last rule of a name. Errors: no rule has the name; a number that no `u32`
-    /// holds counts as an allocation failure.
+    /// Returns the index of the last rule named `rule`.
+    ///
+    /// # Errors
+    /// - `BlockStop::NoRule` if no rule has the name.
+    /// - `Stop::Memory` if no `u32` holds the index.
     fn find_rule(&self, rule: &str) -> Result<u32, BlockStop>
         ensures found { (g : Grammar) → IsCompiledOf g self.now
             → IfOk result (λ number. last_place g (chars rule.now) ≡ Some number) }
         ensures refused { (g : Grammar) → IsCompiledOf g self.now → (text : List ℕ) (steps : ℕ)
             → IfErr result (IsUnanswered g rule.now text steps) }
+        ensures unrun { IfErr result (λ why. why ≢ BlockStop.Stopped Stop.OutOfSteps) }
     {
         let Some(number) = last_number(&self.names, rule) else {
             return Err(BlockStop::NoRule);
@@ -72,82 +76,45 @@ impl<'b> CompiledRules<'b> {
         }
     }
 
-    /// Runs the rule of a name from the start of a text, in at most `steps` steps. Errors: `NoRule` where no
-    /// rule has the name, a text on which the rule fails, a stopped run, and bytes that are no block.
+    /// Matches the rule named `rule` from the start of `text`. Each run takes at most `limit` steps, as in
+    /// `run_block`. If `limit` is `None`, no rule uses the stack, and the rule has an outcome, then that is
+    /// the result: `Stop::OutOfSteps` does not come.
+    ///
+    /// # Errors
+    /// - `BlockStop::NoRule` if no rule has the name.
+    /// - `BlockStop::NoMatch` if the rule fails.
+    /// - `BlockStop::Stopped` if the run is stopped.
+    /// - `BlockStop::Flaw` if the bytes are no block.
     pub fn match_text(
         &self,
         alloc: Global,
         rule: &str,
         text: &str,
-        steps: u64,
+        limit: Option<u64>,
     ) -> Result<Preorder, BlockStop>
         ensures matched { (g : Grammar) → IsCompiledOf g self.now
             → IfOk result (HasPreorder g (chars rule.now) (start_of text.now) is_in_property) }
         ensures refused { (g : Grammar) → IsCompiledOf g self.now
-            → IfErr result (IsRefusedBy g rule.now text.now steps) }
+            → IfErr result (IsRefusedBy g rule.now text.now (steps_of limit)) }
+        ensures answered { (g : Grammar) → IsCompiledOf g self.now
+            → IsAmple g (operations_of self.now) (length text.now) (turns_of limit)
+            → (o : Outcome) → Has g (chars rule.now) text.now is_in_property o
+            → result ≢ Err (BlockStop.Stopped Stop.OutOfSteps) }
     {
         let number = match self.find_rule(rule) {
             Ok(number) => number,
             Err(stop) => return Err(stop),
         };
         let start = Span::of(text, 0, 0).start_pos();
-        run_block(alloc, self.block, number, start, steps)
+        run_block(alloc, self.block, number, start, limit)
     }
 
-    /// Runs the rule of a name from the start of a text, as `match_text`, and where that is out of steps, by
-    /// a guided run in at most so many turns, as `guide_block`, or where none are given, in as many as
-    /// `bound_block` answers. Errors are those of `match_text`.
-    pub fn match_guided(
-        &self,
-        alloc: Global,
-        rule: &str,
-        text: &str,
-        steps: u64,
-        turns: Option<u64>,
-    ) -> Result<Preorder, BlockStop>
-        ensures matched { (g : Grammar) → IsCompiledOf g self.now
-            → IfOk result (HasPreorder g (chars rule.now) (start_of text.now) is_in_property) }
-        ensures refused { (g : Grammar) → IsCompiledOf g self.now
-            → IfErr result (IsRefusedBy g rule.now text.now steps) }
-    {
-        let number = match self.find_rule(rule) {
-            Ok(number) => number,
-            Err(stop) => return Err(stop),
-        };
-        let start = Span::of(text, 0, 0).start_pos();
-        let turns = turns.unwrap_or(bound_block(self.block, text.len()));
-        guide_block(alloc, self.block, number, start, steps, turns)
-    }
-
-    /// Looks whether the rule of a name matches from the start of a text, and where the match ends, without
-    /// trees, in at most so many turns, as `recognize_block`. Errors: `NoRule` where no rule has the name, an
-    /// allocation failure, a text of 4 GiB or more, and bytes that are no block.
-    pub fn recognize(
-        &self,
-        alloc: Global,
-        rule: &str,
-        text: &str,
-        turns: u64,
-    ) -> Result<Recognition, BlockStop>
-        ensures recognized { (g : Grammar) → IsCompiledOf g self.now
-            → IfOk result (IsRecognition g (chars rule.now) (start_of text.now) is_in_property) }
-        ensures refused { (g : Grammar) → IsCompiledOf g self.now → (steps : ℕ)
-            → IfErr result (IsUnanswered g rule.now text.now steps) }
-    {
-        let number = match self.find_rule(rule) {
-            Ok(number) => number,
-            Err(stop) => return Err(stop),
-        };
-        let start = Span::of(text, 0, 0).start_pos();
-        match recognize_block(alloc, self.block, number, start, turns) {
-            Ok(recognition) => Ok(recognition),
-            Err(stop) => Err(stop),
-        }
-    }
-
-    /// Returns the names that are expected at `place`, in bytes, each once, in the order in which they are
-    /// first called there, in a run as by `match_text`. Errors are those of `match_text`, but a text on which
-    /// the rule fails has an answer; more than 65,535 names count as an allocation failure.
+    /// Returns the names that are expected at the byte `place`, in a run as by `match_text`. Each name is
+    /// there once, in the order in which the rules are first called there.
+    ///
+    /// # Errors
+    /// Those of `match_text`, except for `BlockStop::NoMatch`: a rule that fails has expected names, too.
+    /// `Stop::Memory` also if there are more than 65,535 names.
     pub fn expected_at(
         &self,
         alloc: Global,
@@ -175,8 +142,11 @@ impl<'b> CompiledRules<'b> {
         }
     }
 
-    /// Returns the rules that an error of pest names where the rule of a name fails on a text, and its place,
-    /// as `attempts_block`: `place` is asked first. Errors are those of `expected_at`.
+    /// Returns the rules that an error of pest names if the rule named `rule` fails on `text`, and the
+    /// position of that error, as `attempts_block`. The byte `place` is the first position to try.
+    ///
+    /// # Errors
+    /// Those of `expected_at`.
     pub fn attempts(
         &self,
         alloc: Global,
@@ -204,9 +174,11 @@ impl<'b> CompiledRules<'b> {
         }
     }
 
-    /// Returns the calls that are open where the names of `expected_at` are expected, as `paths_block`: lists
-    /// of them, each list once. Errors are those of `expected_at`; more than 1,024 lists count as an
-    /// allocation failure.
+    /// Returns the calls that are open at the names of `expected_at`, as `paths_block`: a list for each path,
+    /// each list once.
+    ///
+    /// # Errors
+    /// Those of `expected_at`. `Stop::Memory` also if there are more than 1,024 lists.
     pub fn failure_paths(
         &self,
         alloc: Global,
@@ -241,8 +213,10 @@ impl<'b> CompiledRules<'b> {
     }
 }
 
-/// Returns the names of the rules of a block in order, or `None` if one is not UTF-8. The only error is an
-/// allocation failure, as which 2^32 rules count.
+/// Returns the names of the rules of `block` in order, or `None` if a name is not UTF-8.
+///
+/// # Errors
+/// `AllocError` if an allocation fails, or if there are 2^32 rules or more.
 fn read_names<'b>(alloc: Global, block: &'b [u8]) -> Result<Option<Vec<&'b str>>, AllocError>
     ensures { IfOk result (λ made. (rules : List OptimizedRule) → IsCompiled rules block.entry.now
         → IsSomeAnd made (λ names. AreNamesOf (optimized_rules_of rules) names.items)) }
@@ -260,7 +234,7 @@ fn read_names<'b>(alloc: Global, block: &'b [u8]) -> Result<Option<Vec<&'b str>>
     Ok(Some(names))
 }
 
-/// Returns the number of the last rule of a name, by the names of all rules in order.
+/// Returns the index of the last rule named `name`. `names` has the names of all rules in order.
 fn last_number(names: &[&str], name: &str) -> Option<usize>
     ensures { (g : Grammar) → AreNamesOf g names.now → result ≡ last_place g (chars name.now) }
 {

@@ -6,8 +6,8 @@ ghost use Rattle.matcher_support.specs.Expectations.{failure_message, list_text,
 
 use std::alloc::{AllocError, Global};
 
-/// Returns the message for a text where these names are expected, in pest's words. The only error is an
-/// allocation failure.
+/// Returns pest's message for a position at which `names` are expected. The only error is an allocation
+/// failure.
 pub fn failure_message(alloc: Global, names: &[&str]) -> Result<String, AllocError>
     ensures { IfOk result (λ message. string_bytes message ≡ failure_message (name_texts names.now)) }
 {

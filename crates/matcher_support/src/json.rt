@@ -66,7 +66,7 @@ fn is_leaf(tree: &VisitedTree<'_>) -> bool
     }
 }
 
-/// Writes what a visit adds, where `later` says whether a tree was left before it.
+/// Writes what a visit adds. `later` says whether a tree was left before the visit.
 fn write_visit(
     alloc: Global,
     json: &mut String,

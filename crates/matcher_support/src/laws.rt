@@ -16,7 +16,7 @@ pub fn wrapped_rules_show_tags()
         → Shows (wrapped_grammar g) classes (Run NonAtomicMode (Ident n)) s o (tagged d) }
 {}
 
-/// Where a rule fails by wrapped rules, it has no other outcome by the rules themselves.
+/// If a rule fails by wrapped rules, it has no other outcome by the rules themselves.
 pub fn wrapped_rules_fail_alike()
     ensures { (g : Grammar) (classes : Classes) → CanWrap g → (n : Text) (s : State) (o : Outcome)
         → Does g classes (Run NonAtomicMode (Ident n)) s o

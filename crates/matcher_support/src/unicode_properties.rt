@@ -31,7 +31,7 @@ impl Properties for UnicodeProperties {
     }
 }
 
-/// Returns the set of a name as ranges, or `None` if the tables don't have the name.
+/// Returns the set of the property named `name` as ranges, or `None` if the tables do not have the name.
 fn ranges_of(alloc: Global, name: &str) -> Result<Option<Vec<(u32, u32)>>, AllocError>
     ensures known { IfOk result (λ found. is_some found ≡ is_some (by_name (normalize (chars name.now)))) }
     ensures ranges { IfOk result (λ found. IfSome found (λ ranges. (c : ℕ) → c < 1114112

@@ -22,7 +22,7 @@ use front_validator::RuleFinding;
 use front_validator::validator::errors_in;
 use std::alloc::{AllocError, Global};
 
-/// What was made of the text of a grammar.
+/// A grammar that was parsed.
 #[derive(Drop)]
 pub struct OpenGrammar<'i> {
     /// All trees of the text.
@@ -33,14 +33,14 @@ pub struct OpenGrammar<'i> {
     pub rules: Deep<Vec<ParserRule<'i>>>,
 }
 
-/// Why a grammar is not opened. `parse_and_optimize` reports the same by errors.
+/// Why `open` refuses a text. `parse_and_optimize` makes its errors of these.
 #[derive(Drop)]
 pub enum OpenError<'i> {
     /// Allocation failure.
     Memory(AllocError),
     /// The text is no grammar: the syntax error.
     Syntax(Error<Rule>),
-    /// Names are not in order: all findings about them, in the order of the errors.
+    /// Some names are wrong: all findings about names, in the order of the errors.
     Names(Vec<NameFinding<'i>>),
     /// The text cannot be read as rules: its first flaw.
     Flaw(Flaw<'i>),
@@ -48,8 +48,11 @@ pub enum OpenError<'i> {
     Rules(Vec<RuleFinding<'i>>),
 }
 
-/// Opens the grammar of a text, with rules in which nothing is found. It is refused for the first of the
-/// reasons of `OpenError` that applies.
+/// Parses and validates the grammar `text`.
+///
+/// # Errors
+/// The first variant of `OpenError` that applies, in the order of the variants. `Memory` is also returned
+/// if `text` has 2^32 bytes or more.
 pub fn open<'i>(alloc: Global, text: &'i str) -> Result<OpenGrammar<'i>, OpenError<'i>>
     ensures forest { IfOk result (λ opened. IsForestOf text.entry.now opened.forest) }
     ensures rules { IfOk result (λ opened.
@@ -64,8 +67,10 @@ pub fn open<'i>(alloc: Global, text: &'i str) -> Result<OpenGrammar<'i>, OpenErr
     Ok(opened)
 }
 
-/// Opens the grammar of a text, whose rules may be wrong. It is refused as by `open`, but never for what is
-/// found in its rules.
+/// Parses the grammar `text` and checks its names, but does not validate its rules.
+///
+/// # Errors
+/// Those of `open`, except `OpenError::Rules`.
 pub fn open_unvalidated<'i>(alloc: Global, text: &'i str) -> Result<OpenGrammar<'i>, OpenError<'i>>
     ensures forest { IfOk result (λ opened. IsForestOf text.entry.now opened.forest) }
     ensures named { IfOk result (λ opened. forest_complaints opened.forest ≡ []) }
@@ -113,8 +118,11 @@ fn syntax_error<'i>(text: &'i str, fault: Fault) -> OpenError<'i>
 }
 
 impl OpenError<'_> {
-    /// Makes the errors with which `parse_and_optimize` refuses the text that was not opened for this reason.
-    /// The only fault is an allocation failure.
+    /// Returns the errors with which `parse_and_optimize` refuses `text`. Condition: `open` returned `self`
+    /// for `text`.
+    ///
+    /// # Errors
+    /// `Fault::Memory` if an allocation fails, or if `self` is `OpenError::Memory`.
     pub fn into_errors(self, alloc: Global, text: &str) -> Result<Vec<Error<Rule>>, Fault>
         requires { IsOpenError text.now self }
         ensures made { IfOk result (λ errors. AreErrorsOf self.entry errors.items) }

@@ -25,11 +25,15 @@ use front_spanned::erase_spans;
 pub use front_spanned::release;
 use std::alloc::Global;
 
-/// Returns the rules that the pairs of a grammar's text spell, in order, without spans. `pairs` are all
-/// those of a parse of a text by `grammar_rules`.
+/// Returns the rules that `pairs` spell, in order, without spans. Condition: `pairs` are all pairs of a
+/// parse of a text by `grammar_rules`.
 ///
-/// Errors: an allocation failure; the one error of the first flaw, as in `consume_rules_with_spans`; or all
-/// errors that `validate_ast` finds in the rules, with the reports of the stack pass.
+/// # Errors
+/// - `Fault::Memory` if an allocation fails.
+/// - `Fault::Grammar` with one error, if there is a flaw: the error of the first flaw, as in
+///   `consume_rules_with_spans`.
+/// - `Fault::Grammar` with all errors of `validate_ast`, if the rules are wrong. Reports of the stack pass
+///   are among them.
 pub fn consume_rules(alloc: Global, pairs: Pairs<'_, Rule>) -> Result<Vec<ast::Rule>, Fault>
     requires { AreOfAGrammar pairs }
     ensures rules { IfOk result

@@ -9,14 +9,18 @@ use std::alloc::{AllocError, Global};
 /// A printed fault.
 #[derive(Debug, Drop)]
 pub enum Report {
-    /// An allocation failure, for the answer or for the text.
+    /// An allocation failed: in the call whose outcome this is, or while the report was printed.
     Memory,
     /// `grammar error`, an empty line, and the printed errors with an empty line between two of them.
     Text(String),
 }
 
-/// Returns the value of an outcome, or its printed fault. An allocation failure while printing is `Memory`,
-/// too.
+/// Returns the value of `outcome`, or the report of its fault.
+///
+/// # Errors
+/// - `Report::Text` with the printed errors, if `outcome` is `Fault::Grammar`.
+/// - `Report::Memory` if `outcome` is `Fault::Memory`, or if an allocation fails while the errors are
+///   printed.
 pub fn unwrap_or_report<T>(alloc: Global, outcome: Result<T, Fault>) -> Result<T, Report>
     ensures value { IfOk outcome (λ value. result ≡ Ok value) }
     ensures report { IfErr outcome (λ fault. IsErrAnd result (IsReportOf fault)) }

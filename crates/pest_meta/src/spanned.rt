@@ -33,8 +33,11 @@ pub fn parse_with_spans<'i>(
     }
 }
 
-/// Returns the optimized rules of rules with spans. The rules that `parse_with_spans` returns for a text give
-/// the answer for this text. The only fault is an allocation failure.
+/// Erases the spans of `rules` and optimizes the rules. If `parse_with_spans` returned `rules` for a text,
+/// the result is that of `parse_and_optimize` for the text.
+///
+/// # Errors
+/// `Fault::Memory` if an allocation fails.
 pub fn optimize_with_spans(
     alloc: Global,
     rules: Vec<ParserRule<'_>>,

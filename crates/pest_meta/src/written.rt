@@ -12,12 +12,15 @@ use front_optimizer::{OptimizedRule, unroll_rules};
 use front_spanned::erase_spans;
 use std::alloc::Global;
 
-/// Parses a grammar; returns its rules as they are written, in the form that runs.
+/// Parses the grammar `grammar`. Returns its rules as they are written, in the form that the matcher runs.
 ///
-/// Counted repetitions are the copies that they mean, and nothing else is rewritten, so each rule matches
-/// what it matches as it is written: the rules of `parse_and_optimize` can match other texts where they are
-/// listed. The returned rules call nothing but rules and builtins, and both bounds of each range are one
-/// character. Errors: those of `parse_and_optimize`, for the same texts.
+/// Only counted repetitions are rewritten: they become the copies that they mean. So each rule matches what
+/// it matches as it is written. The rules of `parse_and_optimize` may match more, if the pass `list`
+/// changed them. The returned rules call only rules and builtins, and both bounds of each range are one
+/// character.
+///
+/// # Errors
+/// Those of `parse_and_optimize`, for the same texts.
 pub fn parse_as_written(alloc: Global, grammar: &str) -> Result<Vec<OptimizedRule>, Fault>
     ensures rules { IfOk result (λ rules. IsWritten grammar.now (optimized_rules_of rules.items)) }
     ensures known_names { IfOk result (λ rules. HasKnownNames (optimized_rules_of rules.items)) }

@@ -1,27 +1,28 @@
 /*
- * The front end for pest grammars: the rules of a grammar's text, its errors and
- * warnings, its optimized rules, and their matches. docs/FORMAT.md has the JSON
- * that goes in and comes out.
+ * Grammars of pest: their rules, errors, warnings and optimized rules, and
+ * matches by their rules. A name in quotes, such as "Rules", is a section of
+ * docs/FORMAT.md, which describes the JSON and the numbers.
  *
- * A call reads texts, each a pointer and a length in bytes, and writes into
- * `out`, a buffer of `out_len` bytes (or numbers, where it says so). It returns
- * a status:
+ * A call reads texts. Each is a pointer and a length in bytes. Most calls write
+ * into `out`, a buffer of `out_len` bytes, or of `out_len` numbers if the comment
+ * says so. They return a status:
  *
  *   0  the answer is written, and `*needed` is its length
  *   1  the text is refused: its errors are written, and `*needed` is their
  *      length
- *   2  out of memory; nothing is written, and `*needed` is 0
- *   3  a text is not UTF-8; nothing is written, and `*needed` is 0
- *   4  the buffer is too small; nothing is written, and `*needed` is the length
- *      that is needed: call again with so large a buffer
+ *   2  an allocation failed, or the text has 4 GiB or more. Nothing is written,
+ *      and `*needed` is 0
+ *   3  a text is not UTF-8. Nothing is written, and `*needed` is 0
+ *   4  the buffer is too small. Nothing is written, and `*needed` is the length
+ *      that is needed: call again with a buffer of that length
  *
- * The bytes of `out` after the written ones stay as they were. A pointer to 0
- * bytes may be null, so NULL and 0 for `out` ask for the needed length; no
- * other pointer may be null, nor `needed`. `out` and `needed` may not overlap
- * with any other argument, and nobody else may change an argument while the
- * call runs. Memory is taken by malloc and realloc, and freed before the call
- * returns. The calls keep nothing, so they may run in several threads at once;
- * do not call them from a signal handler.
+ * The bytes of `out` after the written ones are not changed. A pointer to 0
+ * bytes may be null, so NULL and 0 for `out` ask for the needed length. No
+ * other pointer may be null, and neither may `needed`. `out` and `needed` must
+ * not overlap with any other argument. Nobody else may change an argument while
+ * the call runs. Memory is taken by malloc and realloc, and freed before the
+ * call returns. The calls keep no state, so several threads may make calls at
+ * the same time. Do not make calls from a signal handler.
  */
 #ifndef PEST_META_H
 #define PEST_META_H
@@ -47,115 +48,92 @@ extern "C" {
 #define PEST_META_OTHER_VERSION 11
 #define PEST_META_CHANGED 12
 
-/* The tokens of the text for the rule of the meta-grammar of that name, from
- * the text's start on ("Tokens"). Refused with a list of one error, or with an
- * object of `message` if no rule has that name. */
+/* Writes the tokens of the text by the rule `rule` of pest's grammar of grammars,
+ * from the start of the text on ("Tokens"). If the text is refused, a list of one
+ * error is written. If no rule has that name, an object of `message` is written. */
 uint8_t pest_meta_tokens(const uint8_t *text, size_t text_len, const uint8_t *rule, size_t rule_len,
                          uint8_t *out, size_t out_len, size_t *needed);
 
-/* The same tokens as numbers: for each entry a pest_meta_entry ("Tokens as
+/* Writes the same tokens as numbers: a pest_meta_entry for each entry ("Tokens as
  * numbers"). `out` is a buffer of `out_len` numbers, and `*needed` counts
- * numbers. Refused with nothing written and 0 in `*needed`: pest_meta_tokens
- * writes why. */
+ * numbers. If the text is refused, nothing is written, and `*needed` is 0:
+ * pest_meta_tokens writes the error. */
 uint8_t pest_meta_token_numbers(const uint8_t *text, size_t text_len, const uint8_t *rule,
                                 size_t rule_len, size_t *out, size_t out_len, size_t *needed);
 
-/* The builtins that a grammar uses ("Names"). Refused with a list of errors: of
- * syntax, or of names. */
+/* Writes the names of the builtins that a grammar uses ("Names"). If the grammar
+ * is refused, its errors are written: of syntax, or else of names. */
 uint8_t pest_meta_names(const uint8_t *text, size_t text_len, uint8_t *out, size_t out_len,
                         size_t *needed);
 
-/* The errors of a name, which is any text, as a keyword of Rust ("Errors"): one,
- * with the span of the name, if it is a keyword, and else none. Rules may have
- * such names, so no other call reports them. Never refused. */
+/* Writes the error of a name that is a keyword of Rust ("Errors"): a list of one
+ * error, with the span of the name. If the name is no keyword, the list is
+ * empty. The name may be any text, and is never refused. Rules may have such
+ * names, so no other call reports them. */
 uint8_t pest_meta_rust_keyword(const uint8_t *name, size_t name_len, uint8_t *out, size_t out_len,
                                size_t *needed);
 
-/* The rules that a grammar spells ("Rules"); its names are not checked. Refused
- * with a list of errors: of syntax, of the first flaw, or all errors of the
- * rules. */
+/* Writes the rules of a grammar ("Rules"). Names are not checked. If the grammar is
+ * refused, its errors are written: of syntax, or else the first flaw, or else all
+ * errors of the rules. A flaw is a number out of range, a greatest count of 0, or
+ * an escape that names no character. */
 uint8_t pest_meta_rules(const uint8_t *text, size_t text_len, uint8_t *out, size_t out_len,
                         size_t *needed);
 
-/* The rules that a grammar spells, with the spans of their names and nodes
- * ("Rules with spans"); neither names nor rules are checked. Refused with a
- * list of errors: of syntax, or of the first flaw. */
+/* Writes the rules of a grammar with the spans of their names and nodes ("Rules
+ * with spans"). Names and rules are not checked. If the grammar is refused, its
+ * errors are written: of syntax, or else the first flaw. */
 uint8_t pest_meta_nodes(const uint8_t *text, size_t text_len, uint8_t *out, size_t out_len,
                         size_t *needed);
 
-/* The optimized rules for rules in JSON ("Rules", both). Refused with an object
- * of `message` and a location if the JSON has no rules. */
+/* Reads rules in JSON, and writes the optimized rules ("Rules", both). If the JSON
+ * is no list of rules, an object of `message` and a position is written. */
 uint8_t pest_meta_optimize(const uint8_t *rules, size_t rules_len, uint8_t *out, size_t out_len,
                            size_t *needed);
 
-/* The builtins that a grammar uses and its optimized rules ("An answer for a
- * whole text"). Refused with a list of errors: of syntax, else of names, else of
- * the first flaw, else of the rules. */
+/* Writes the builtins that a grammar uses, and its optimized rules ("An answer for
+ * a whole text"). If the grammar is refused, its errors are written: of syntax,
+ * or else of names, or else the first flaw, or else all errors of the rules. */
 uint8_t pest_meta_parse_and_optimize(const uint8_t *text, size_t text_len, uint8_t *out,
                                      size_t out_len, size_t *needed);
 
-/* The builtins that a grammar uses, its rules and its optimized rules ("Binary
- * form"). Refused as pest_meta_parse_and_optimize is, in JSON. */
+/* Writes the builtins that a grammar uses, its rules and its optimized rules
+ * ("Binary form"). If the grammar is refused, the errors of
+ * pest_meta_parse_and_optimize are written, in JSON. */
 uint8_t pest_meta_grammar(const uint8_t *text, size_t text_len, uint8_t *out, size_t out_len,
                           size_t *needed);
 
-/* The tokens of a text by a rule of optimized rules in JSON ("Rules"), from the
- * text's start on. `out` is a buffer of `out_len` numbers, and `*needed` counts
- * numbers. The run takes `steps` steps at most; UINT64_MAX is no limit in
- * practice. The rules are read and compiled at each call: pest_meta_prepare saves
- * most of the reading. With status
- *
- *   0  the rule matches: the position after the match, in bytes, and then for
- *      each entry of the tokens ("Tokens as numbers") a pest_meta_entry
- *   1  the rule fails: the furthest position of a failure, in bytes, and then
- *      the numbers of the rules that would have let the run get further
- *   5  the JSON is no list of optimized rules
- *   6  the rules call a name that is neither a rule nor a builtin, or have a
- *      range with a bound that is not one character
- *   7  no rule has the name
- *   8  the run would take more steps
- *   9  PEEK or POP met the empty stack: the rule has no outcome
- *  10  the text has 4 GiB or more
- *
- * and 2, 3 and 4 are as above. With 5 to 10 nothing is written, and `*needed` is
- * 0. A rule's number is one more than its index in the list; of rules of one
- * name, the last is meant. EOI has the number after all rules. */
-uint8_t pest_meta_match(const uint8_t *rules, size_t rules_len, const uint8_t *rule, size_t rule_len,
-                        const uint8_t *text, size_t text_len, uint64_t steps, size_t *out,
-                        size_t out_len, size_t *needed);
-
-/* Optimized rules in binary form ("Binary form"), for those in JSON, to be handed
- * to pest_meta_match_prepared for any number of texts. Refused as
- * pest_meta_optimize is. */
+/* Reads optimized rules in JSON, and writes them in binary form ("Binary form"), in
+ * which pest_meta_compile_prepared reads them. Refusals are those of
+ * pest_meta_optimize. */
 uint8_t pest_meta_prepare(const uint8_t *rules, size_t rules_len, uint8_t *out, size_t out_len,
                           size_t *needed);
 
-/* As pest_meta_match, by rules in binary form: status 5 says that the bytes are
- * no list of optimized rules in that form. Any bytes may be handed over. */
-uint8_t pest_meta_match_prepared(const uint8_t *rules, size_t rules_len, const uint8_t *rule,
-                                 size_t rule_len, const uint8_t *text, size_t text_len,
-                                 uint64_t steps, size_t *out, size_t out_len, size_t *needed);
-
-/* The start or the end of a token, as it lies in `out`. */
+/* The start or the end of a token, as pest_meta_token_numbers writes it. */
 typedef struct pest_meta_entry {
-    size_t rule;    /* the rule's number, or 0 for an end */
+    size_t rule;    /* the number of the rule, from 1, or 0 for an end */
     size_t pos;     /* the position, in bytes */
     size_t partner; /* the index of the entry at the other end of the token */
 } pest_meta_entry;
 
-/* Compiled grammars: a block of bytes that is made once, lent at each run, and
- * read in place ("Compiled grammars"). What a call hands out takes memory by
- * malloc: free `at` by free() where `count` is not 0. Before a call `at` may
- * not be null: begin with PEST_META_EMPTY and count 0. After another status
- * than 0 what was there stays. Status 2 says that an allocation failed. */
+/* The calls below are about compiled grammars ("Compiled grammars"): a block of
+ * bytes that is made once, and read where it lies in each run. Rules are given by
+ * their index, from 0, in the order of the grammar.
+ *
+ * These calls return lists that the caller owns. Before a call, `at` of a list
+ * must not be null, and `count` must be 0: begin with PEST_META_EMPTY and 0. After
+ * status 0, free `at` by free(), or by pest_meta_free(), if `count` is not 0.
+ * After any other status, the list is not changed. Status 2 says that an
+ * allocation failed. */
 typedef struct pest_meta_bytes {
     uint8_t *at;
     size_t count;
 } pest_meta_bytes;
 
-/* A token, before those within it. Rules count from 0, in the grammar's order;
- * `EOI` has the number of rules. `after` is the index behind its last
- * descendant: the next token that is not within this one. */
+/* A token of a match. Tokens are in preorder: each is before the tokens inside it.
+ * `row` is the index of its rule. For `EOI` it is the number of the rules. `start`
+ * and `end` are in bytes. `after` is the index of the next token that is not
+ * inside this one. */
 typedef struct pest_meta_node {
     uint32_t row, start, end, after;
 } pest_meta_node;
@@ -170,8 +148,8 @@ typedef struct pest_meta_row_list {
     size_t count;
 } pest_meta_row_list;
 
-/* A call that is open where a rule is expected: the number of its path, its
- * rule, and where it begins. */
+/* A call that is open at a position where a rule is expected: the index of its
+ * path, from 0, the index of its rule, and the byte at which it begins. */
 typedef struct pest_meta_path_call {
     size_t path, row, start;
 } pest_meta_path_call;
@@ -181,8 +159,8 @@ typedef struct pest_meta_path_list {
     size_t count;
 } pest_meta_path_list;
 
-/* Where an empty list lies: an address that is not null, and aligned for each
- * kind of list. Nothing is read there. */
+/* The address of an empty list. It is not null, and aligned for each kind of list.
+ * Nothing is read there. */
 #ifdef __cplusplus
 extern "C++" {
 struct pest_meta_empty {
@@ -194,92 +172,111 @@ struct pest_meta_empty {
 #define PEST_META_EMPTY ((void *)8)
 #endif
 
-/* The block of a grammar. Status 1: the grammar has errors, which
- * pest_meta_parse_and_optimize writes; 3: it is not UTF-8; 6: it cannot be
- * run. */
+/* Compiles a grammar. Status 1: the grammar has errors, which
+ * pest_meta_parse_and_optimize writes. 3: it is not UTF-8. 6: its rules call a
+ * name that is neither a rule nor a builtin, or have a range with a bound that is
+ * not one character. */
 uint8_t pest_meta_compile(const uint8_t *grammar, size_t grammar_len, pest_meta_bytes *block);
 
-/* The block of optimized rules in binary form (pest_meta_prepare). Status 5:
- * the bytes are none; 6: the rules cannot be run. */
+/* Compiles optimized rules in binary form, as pest_meta_prepare writes them.
+ * Status 5: the bytes are no such rules. 6: as for pest_meta_compile. */
 uint8_t pest_meta_compile_prepared(const uint8_t *rules, size_t rules_len, pest_meta_bytes *block);
 
-/* Says whether bytes are a block as it was made, by its version and the sum in
- * its head: for a program that reads a block from a file, before its first run.
- * Status 0: they are; 5: they are no block; 11: they are a block of another
- * version, so compile the grammar again; 12: they were changed. */
+/* Compares the version and the checksum of a block: for a program that reads a
+ * block from a file, before its first run. Status 0: both are right. 5: the bytes
+ * are no block. 11: the block is of another version, so compile the grammar again.
+ * 12: the block was changed. */
 uint8_t pest_meta_check(const uint8_t *block, size_t block_len);
 
-/* Runs the rule of a number from the byte `from` of the text on. Status 0: it
- * matches; `*nodes` are its tokens, and `*end` is its end. 1: it fails, and
- * `*end` is the furthest position of a failure. 3: the text is not UTF-8, or
- * `from` is inside a character or behind the text; 5: no block; 7: no rule has
- * the number; 8 to 10 as above; 11: a block of another version. With another
- * status than 0 and 1 `*end` stays. Any bytes may be handed over: the sum is not
- * compared, and a changed block may match what it should not. */
+/* Returns the number of the rules of a block. If the bytes are no block, the result
+ * means nothing. */
+size_t pest_meta_rule_count(const uint8_t *block, size_t block_len);
+
+/* Writes the name of the rule with the index `rule`. Status 0: the name is written,
+ * and `*needed` is its length. 4: the buffer is too small, as above. 7: no rule has
+ * the index. */
+uint8_t pest_meta_rule_name(const uint8_t *block, size_t block_len, uint32_t rule, uint8_t *out,
+                            size_t out_len, size_t *needed);
+
+/* Frees `at` of a list that a call has returned, as free() does: for a program
+ * whose own free() is not that of the library, for example beside a DLL. */
+void pest_meta_free(void *at);
+
+/* This number of steps means that a run has no limit. */
+#define PEST_META_NO_LIMIT UINT64_MAX
+
+/* Runs the rule with the index `rule` on `text`, from the byte `from` on. Status 0:
+ * it matches; `*nodes` are its tokens, and `*end` is its end. 1: it fails, and
+ * `*end` is the furthest position of a failure. 2: an allocation failed. 3: the
+ * text is not UTF-8, or `from` is inside a character or after the end of the text.
+ * 5: the bytes are no block. 7: no rule has the index. 8: the rule takes more than
+ * `steps` steps. 9: PEEK or POP came to the empty stack, so the rule has no
+ * outcome. 10: the text has 4 GiB or more. 11: the block is of another version. If
+ * the status is neither 0 nor 1, `*end` is not changed. `*end` is in bytes.
+ *
+ * Most runs are short. A run that takes many steps is made again with a memo
+ * table. Its turns are linear in the bytes of the text and in the tokens. If the
+ * rule uses the stack (PUSH, PEEK, POP), a run without a table follows. That run
+ * may take exponential time, so give a limit. If no rule of the grammar uses the
+ * stack, and `steps` is PEST_META_NO_LIMIT, status 8 does not come, under the
+ * premises in docs/SPEC.md ("Accepted grammars end"). A step is four operations of
+ * the machine. Each run has at most `steps` steps.
+ *
+ * The bytes may be any: the checksum is not compared, and a changed block may match
+ * what it should not. */
 uint8_t pest_meta_run(const uint8_t *block, size_t block_len, uint32_t rule, const uint8_t *text,
                       size_t text_len, size_t from, uint64_t steps, pest_meta_node_list *nodes,
                       size_t *end);
 
-/* As pest_meta_run, but a run that takes more than `steps` steps is not given up
- * yet: a guided run looks in at most `turns` turns whether the rule matches, and
- * makes the nodes in at most as many operations. Status 8 says that it has no
- * answer either. */
-uint8_t pest_meta_run_guided(const uint8_t *block, size_t block_len, uint32_t rule,
-                             const uint8_t *text, size_t text_len, size_t from, uint64_t steps,
-                             uint64_t turns, pest_meta_node_list *nodes, size_t *end);
-
-/* How many turns suffice for a guided run on a text of so many bytes to tell
- * whether a rule matches, unless it comes to an operation on the stack, as PUSH
- * and PEEK are: then its status is 8. A turn may search many bytes, and memory
- * grows with the turns. UINT64_MAX where there are as many or more. Any bytes may
- * be handed over: of what is no block it says nothing. */
-uint64_t pest_meta_bound(const uint8_t *block, size_t block_len, size_t bytes);
-
-/* The rules that are expected at `place` in such a run, each once, in the order
- * in which they are first called there. A rule that fails has an answer; the
- * other statuses are those of pest_meta_run. */
+/* Finds the rules that are expected at the byte `place` in such a run. Each is
+ * there once, in the order in which they are first called there. The call also
+ * succeeds if the rule fails on the text. The other statuses are those of
+ * pest_meta_run. */
 uint8_t pest_meta_expected(const uint8_t *block, size_t block_len, uint32_t rule,
                            const uint8_t *text, size_t text_len, size_t from, size_t place,
                            uint64_t steps, pest_meta_row_list *rows);
 
-/* Where in the grammar those rules are expected: for each a path, which is the
- * calls that are open there, the outermost first, and the expected one last.
- * Each path is there once; they are numbered from 0, and lie one after another.
- * Only calls that give tokens to a caller other than an atomic one are there.
- * Such a run may take more steps than pest_meta_expected; more than 1,024 paths
- * are status 2, and the other statuses are those of pest_meta_expected. */
+/* Finds the paths to the rules that are expected at the byte `place`. A path has
+ * the calls that are open there: the outermost first, and the expected one last.
+ * Each path is there once. Paths are numbered from 0, and are one after another in
+ * the list. Only calls that give tokens to a caller other than an atomic one are
+ * there. Such a run may take more steps than that of pest_meta_expected. More than
+ * 1,024 paths are status 2. The other statuses are those of pest_meta_expected. */
 uint8_t pest_meta_paths(const uint8_t *block, size_t block_len, uint32_t rule, const uint8_t *text,
                         size_t text_len, size_t from, size_t place, uint64_t steps,
                         pest_meta_path_list *calls);
 
-/* The rules that an error of pest names where such a run fails, and the place of
- * that error: `*positives` are expected there, `*negatives` are not, in the order
- * of their calls, and some several times. `*place` is asked first: give it the
- * `*end` of the run. That is mostly the place, and takes one run; else it takes
- * three at most, of which each may take so many steps, and more than
- * pest_meta_expected. More than 65,535 rules of a kind are status 2, and the
- * other statuses are those of pest_meta_expected. With another status than 0
- * `*place` stays. */
+/* Finds the rules that an error of pest names if such a run fails, and the position
+ * of that error: `*positives` are expected there, and `*negatives` are not. They
+ * are in the order of their calls, and a rule may be there several times. `*place`
+ * is the first position to try: set it to the `*end` of the run. Mostly that is the
+ * position of the error, and one run is enough. If not, there are at most three
+ * runs, each of at most `steps` steps. More than 65,535 rules of a kind are status
+ * 2. The other statuses are those of pest_meta_expected. If the status is not 0,
+ * `*place` is not changed. */
 uint8_t pest_meta_attempts(const uint8_t *block, size_t block_len, uint32_t rule,
                            const uint8_t *text, size_t text_len, size_t from, uint64_t steps,
                            size_t *place, pest_meta_row_list *positives,
                            pest_meta_row_list *negatives);
 
-/* The diagnostics of a grammar, as pest-lint prints them in JSON ("Diagnostics"):
- * the errors with which it is refused, or else its warnings, a line for each.
- * Never refused: errors are an answer too, with status 0. An answer of no line
- * says that the grammar is accepted, without a warning. */
+/* Writes the diagnostics of a grammar as lines, as pest-lint prints them in JSON
+ * ("Diagnostics"). If the grammar has errors, these are written. If not, its
+ * warnings are written. The call refuses no text: the status for errors is 0, too.
+ * If no line is written, the grammar has neither errors nor warnings. */
 uint8_t pest_meta_diagnostics(const uint8_t *text, size_t text_len, uint8_t *out, size_t out_len,
                               size_t *needed);
 
-/* The formatted text of a grammar, and its document in HTML, with railroad diagrams: handed out as blocks
- * are. Status 1: the grammar is refused; 6: it is left as it is. */
+/* Formats a grammar. Status 1: its syntax is wrong. 6: the text is formatted
+ * already. The caller owns the list. */
 uint8_t pest_meta_format(const uint8_t *text, size_t text_len, pest_meta_bytes *formatted);
 
+/* Makes the document of a grammar in HTML, with railroad diagrams. Its rules may
+ * have errors. Status 1: it is refused for its syntax, its names or a flaw. The
+ * caller owns the list. */
 uint8_t pest_meta_page(const uint8_t *text, size_t text_len, pest_meta_bytes *page);
 
-/* The number of the format, and the version of the original crate
- * ("Versions"). Never refused. */
+/* Writes the number of the format, and the version of pest_meta that this library
+ * ports ("Versions"). Never refused. */
 uint8_t pest_meta_version(uint8_t *out, size_t out_len, size_t *needed);
 
 #ifdef __cplusplus

@@ -1,9 +1,7 @@
 -- What goes over is handed over, by its status.
 use Rattle.std.proofs.Common.{◌≡◌, ◌<◌, ◌≤◌, ◌⊎◌, ℕ, List, Result, Ok, Err, IfOk, IfErr, String, Global, length, string_bytes, inl, inr, refl, sym, ◌∙◌, arith}
 use Rattle.std.proofs.lemmas.Bool.{cases_lt}
-use Rattle.pest_meta_c.specs.declared.matching.outcome.MatchOutcome.{MatchOutcome}
-use Rattle.pest_meta_c.specs.declared.matching.outcome.MatchOutcome.TheVariants as match_is
-use Rattle.pest_meta_c.specs.Handing.{AreBytesHandedOver, AreNumbersHandedOver, HandsOver, HandsOverMatch, HandsOverNumbers, IsHandedOver, IsMatchHandedOver, IsPut}
+use Rattle.pest_meta_c.specs.Handing.{AreBytesHandedOver, AreNumbersHandedOver, HandsOver, HandsOverNumbers, IsHandedOver, IsPut}
 use Rattle.pest_meta_c.specs.Outcomes.{RefusesNumbers, RefusesWith}
 use Rattle.pest_meta_c.specs.declared.outcome.CallError as why
 use Rattle.pest_meta_c.specs.declared.outcome.CallError.TheVariants as why_is
@@ -79,32 +77,6 @@ pub is_text : (outcome : Result (String Global) why.CallError) (old new : List �
 is_text (Ok json) old new needed status g e = put_is_text 0 (string_bytes json) old new needed status (omega arith) g e
 is_text (Err (why_is.Refused json)) old new needed status g e = put_is_text 1 (string_bytes json) old new needed status (omega arith) g e
 is_text (Err why_is.Memory) old new needed status g e = let two : status ≡ 2 = g.0 in omega arith
-
--- the outcome of a rule goes over with another status than that of what is not UTF-8
-pub is_match_text : (outcome : MatchOutcome) (old new : List ℕ) (needed status : ℕ) → IsMatchHandedOver outcome old new needed status → status ≡ 3 → ⊥
-is_match_text (match_is.Matched numbers) old new needed status g e = put_is_text 0 numbers.items old new needed status (omega arith) g e
-is_match_text (match_is.Failed numbers) old new needed status g e = put_is_text 1 numbers.items old new needed status (omega arith) g e
-is_match_text match_is.NoRules old new needed status g e = let s : status ≡ 5 = g.0 in omega arith
-is_match_text match_is.Unfit old new needed status g e = let s : status ≡ 6 = g.0 in omega arith
-is_match_text match_is.NoRule old new needed status g e = let s : status ≡ 7 = g.0 in omega arith
-is_match_text match_is.OutOfSteps old new needed status g e = let s : status ≡ 8 = g.0 in omega arith
-is_match_text match_is.EmptyStack old new needed status g e = let s : status ≡ 9 = g.0 in omega arith
-is_match_text match_is.LongText old new needed status g e = let s : status ≡ 10 = g.0 in omega arith
-is_match_text match_is.Memory old new needed status g e = let s : status ≡ 2 = g.0 in omega arith
-
--- an outcome of a rule
-pub hands_match : (P : MatchOutcome → Type 0) (outcome : MatchOutcome) (old new : List ℕ) (needed status : ℕ) → P outcome → IsMatchHandedOver outcome old new needed status → HandsOverMatch P old new needed status
-hands_match P outcome old new needed status h g = record {
-  no_text = λ e. absurd (is_match_text outcome old new needed status g e);
-  of_outcome = λ other. record { outcome = outcome; holds = h; handed = g };
-}
-
--- what is not UTF-8 goes over as nothing
-pub hands_no_match : (P : MatchOutcome → Type 0) (old : List ℕ) (needed status : ℕ) → status ≡ 3 → needed ≡ 0 → HandsOverMatch P old old needed status
-hands_no_match P old needed status three none = record {
-  no_text = λ e. record { told = none; unchanged = refl };
-  of_outcome = λ other. absurd (other three);
-}
 
 -- an outcome in binary form
 pub hands_bytes : (Answer Refusal : List ℕ → Type 0) (outcome : Result (Vec ℕ Global) why.CallError) (old new : List ℕ) (needed status : ℕ) → IfOk outcome (λ bytes. Answer bytes.items) → IfErr outcome (RefusesWith Refusal)

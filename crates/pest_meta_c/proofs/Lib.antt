@@ -1,7 +1,5 @@
 pub mod Answering
-pub mod Guiding
 pub mod HandedOver
 pub mod Lining
+pub mod Statuses
 pub mod Telling
-pub mod Numbering
-pub mod Running

@@ -1,5 +1,5 @@
 -- Answers of the calls on compiled grammars.
-use Rattle.std.specs.Prelude.{◌≡◌, ◌⊎◌, ℕ, List, [], Result, Ok, Err, Some, chars, drop}
+use Rattle.std.specs.Prelude.{◌≡◌, ◌⊎◌, ℕ, List, [], ◌-◌, ◌^◌, Result, Ok, Err, None, Option, Some, chars, drop, if◌then◌else◌, nat_eq, ⊤}
 use Rattle.std.specs.Str.{IsCharBoundary, IsUtf8}
 use Rattle.base_ast.specs.Optimized.{optimized_rules_of}
 use Rattle.base_ast.specs.declared.optimized.OptimizedRule.{OptimizedRule}
@@ -16,7 +16,11 @@ use Rattle.matcher_engine.specs.declared.block.head.BlockFlaw.TheVariants as fla
 use Rattle.matcher_engine.specs.declared.block.runs.BlockStop.{BlockStop}
 use Rattle.matcher_engine.specs.declared.block.runs.BlockStop.TheVariants as stop
 use Rattle.matcher_engine.specs.declared.matcher.Preorder.{Preorder}
+use Rattle.matcher_program.specs.Refusals.{IsReason}
 use Rattle.matcher_program.specs.declared.answers.Stop.TheVariants as limit
+use Rattle.matcher_program.specs.declared.compile.Unfit.{Unfit}
+use Rattle.matcher_program.specs.declared.compile.Unfit.TheVariants as unfit
+use Rattle.matcher_support.specs.Sets.{has_set}
 use Rattle.pest_meta_c.specs.PathCalls.{calls_in}
 use Rattle.pest_meta_c.specs.declared.paths.PathCall.{PathCall}
 
@@ -45,6 +49,10 @@ abbrev pub Tells : Result Preorder BlockStop → List TreeNode → ℕ → ℕ �
 Tells (Ok it) nodes end status = (status ≡ 0) × (nodes ≡ it.trees.items) × (end ≡ it.end)
 Tells (Err (stop.NoMatch place)) nodes end status = (status ≡ 1) × (end ≡ place)
 Tells (Err why) nodes end status = status ≡ status_of why
+
+-- the limit that a number of steps stands for: none, if it is the greatest number
+abbrev pub limit_in : ℕ → Option ℕ
+limit_in steps = if nat_eq steps (2 ^ 64 - 1) then None else Some steps
 
 -- they report the outcome of the rule of a number from a place of a text
 pub record IsTold (block : List ℕ) (rule : ℕ) (text : List ℕ) (from steps : ℕ) (nodes : List TreeNode)
@@ -84,6 +92,16 @@ pub record IsRefusalTold (block : List ℕ) (rule : ℕ) (text : List ℕ) (from
   pub told : status ≡ status_of why
   pub is : (g : Grammar) (classes : Classes) → IsBlockOf g classes block → (n : Text)
       → last_place g n ≡ Some rule → IsRefusal g n (state_from text from) classes steps why
+
+-- the reason is one of the rules
+abbrev pub IsOfRules : Unfit → Type 0
+IsOfRules unfit.Memory = ⊥
+IsOfRules (unfit.UnknownName name) = ⊤
+IsOfRules (unfit.Bound text) = ⊤
+
+-- there is a reason to refuse the rules
+abbrev pub AreUnfit : Grammar → Type 0
+AreUnfit g = (why : Unfit) × IsOfRules why × IsReason has_set g why
 
 -- the block of optimized rules
 pub record IsCompiled (rules : List OptimizedRule) (classes : Classes) (block : List ℕ) : Type 0 where

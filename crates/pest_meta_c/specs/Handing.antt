@@ -1,10 +1,8 @@
 -- The result of a call for its caller: a status, bytes in a buffer, and a length.
-use Rattle.std.specs.Prelude.{◌≡◌, ◌≢◌, ◌<◌, ◌≤◌, ◌⊎◌, ◌++◌, ℕ, List, Result, Ok, Err, drop, length, string_bytes}
+use Rattle.std.specs.Prelude.{◌≡◌, ◌<◌, ◌≤◌, ◌⊎◌, ◌++◌, ℕ, List, Result, Ok, Err, drop, length, string_bytes}
 use Rattle.std.specs.declared.string.String.{String}
 use Rattle.std.specs.declared.alloc.Global.{Global}
 use Rattle.std.specs.declared.vec.Vec.{Vec}
-use Rattle.pest_meta_c.specs.declared.matching.outcome.MatchOutcome.{MatchOutcome}
-use Rattle.pest_meta_c.specs.declared.matching.outcome.MatchOutcome.TheVariants as match_is
 use Rattle.pest_meta_c.specs.declared.outcome.CallError as why
 use Rattle.pest_meta_c.specs.declared.outcome.CallError.TheVariants as why_is
 use Rattle.pest_meta_c.specs.declared.outcome.NumbersError.{NumbersError}
@@ -80,29 +78,3 @@ abbrev pub AreNumbersHandedOver : Result (Vec ℕ Global) NumbersError → List 
 AreNumbersHandedOver (Ok numbers) old new needed status = IsPut 0 numbers.items old new needed status
 AreNumbersHandedOver (Err no_numbers.Refused) old new needed status = IsNothing 1 old new needed status
 AreNumbersHandedOver (Err no_numbers.Memory) old new needed status = IsNothing 2 old new needed status
-
--- the result of the outcome of a rule on a text
-abbrev pub IsMatchHandedOver : MatchOutcome → List ℕ → List ℕ → ℕ → ℕ → Type 0
-IsMatchHandedOver (match_is.Matched numbers) old new needed status =
-    IsPut 0 numbers.items old new needed status
-IsMatchHandedOver (match_is.Failed numbers) old new needed status =
-    IsPut 1 numbers.items old new needed status
-IsMatchHandedOver match_is.NoRules old new needed status = IsNothing 5 old new needed status
-IsMatchHandedOver match_is.Unfit old new needed status = IsNothing 6 old new needed status
-IsMatchHandedOver match_is.NoRule old new needed status = IsNothing 7 old new needed status
-IsMatchHandedOver match_is.OutOfSteps old new needed status = IsNothing 8 old new needed status
-IsMatchHandedOver match_is.EmptyStack old new needed status = IsNothing 9 old new needed status
-IsMatchHandedOver match_is.LongText old new needed status = IsNothing 10 old new needed status
-IsMatchHandedOver match_is.Memory old new needed status = IsNothing 2 old new needed status
-
--- the result is that of an outcome with this property
-pub record IsOfMatch (P : MatchOutcome → Type 0) (old new : List ℕ) (needed status : ℕ) : Type 0 where
-  pub outcome : MatchOutcome
-  pub holds : P outcome
-  pub handed : IsMatchHandedOver outcome old new needed status
-
--- the result of a call that runs a rule on a text: that of an outcome with this property, or 3 for an input
--- that is not UTF-8, with nothing written
-pub record HandsOverMatch (P : MatchOutcome → Type 0) (old new : List ℕ) (needed status : ℕ) : Type 0 where
-  pub no_text : status ≡ 3 → WritesNothing old new needed
-  pub of_outcome : status ≢ 3 → IsOfMatch P old new needed status

@@ -4,6 +4,4 @@ pub mod Diagnostics
 pub mod Handing
 pub mod Outcomes
 pub mod Refusals
-pub mod Numbers
 pub mod PathCalls
-pub mod MatchOutcomes

@@ -81,7 +81,7 @@ pub(crate) fn names(alloc: Global, text: &str) -> Outcome
     }
 }
 
-/// Returns the errors of a name as a keyword of Rust.
+/// Returns the error of `name`, if it is a keyword of Rust.
 pub(crate) fn rust_keyword(alloc: Global, name: &str) -> Outcome
     ensures answered { IfOk result (λ json. AreKeywordErrors name.now (string_bytes json)) }
     ensures refused { IfErr result (RefusesWith Never) }

@@ -1,5 +1,5 @@
-//! Compiled grammars: blocks that are made once, lent at each run, and freed by the caller.
-ghost use Rattle.std.specs.Prelude.{◌≡◌, ◌≢◌, ◌⊎◌, ◌+◌, Err, IfNone, IfSome, List, length, ℕ};
+//! Compiled grammars: blocks that are made once, borrowed by each run, and freed by the caller.
+ghost use Rattle.std.specs.Prelude.{◌≡◌, ◌≢◌, ◌⊎◌, Err, IfNone, IfSome, List, Some, length, ℕ};
 ghost use Rattle.std.specs.Borrow.{Bor};
 ghost use Rattle.std.specs.Str.{IsUtf8};
 ghost use Rattle.base_ast.specs.Optimized.{optimized_rules_of};
@@ -7,15 +7,15 @@ ghost use Rattle.base_ast.specs.declared.optimized.OptimizedRule.{OptimizedRule}
 ghost use Rattle.format_binary.specs.Format.{optimized_rules_bytes};
 ghost use Rattle.format_binary.specs.Fronts.{AreOfNoRules};
 ghost use Rattle.base_language.specs.Pieces.Span.{position_offset, position_text};
-ghost use Rattle.format_code.specs.Codes.{lists_at};
 ghost use Rattle.matcher_code.specs.declared.state.TreeNode.{TreeNode};
-ghost use Rattle.matcher_engine.specs.Blocks.{HasFlaw, IsWhole, part_of};
-ghost use Rattle.matcher_engine.specs.Guided.{IsUnguided};
-ghost use Rattle.matcher_engine.specs.Recognitions.{enough_turns};
-ghost use Rattle.matcher_program.specs.Answers.{state_at};
+ghost use Rattle.matcher_engine.specs.Blocks.{HasFlaw, IsBlockOf, IsWhole, operations_in};
+ghost use Rattle.matcher_engine.specs.Limits.{IsAmple, steps_of, turns_of};
+ghost use Rattle.base_language.specs.Language.Expression.{Grammar, last_place};
+ghost use Rattle.base_language.specs.Language.State.{Classes, Outcome};
+ghost use Rattle.base_language.specs.Language.Text.{Text};
+ghost use Rattle.matcher_program.specs.Answers.{HasAt, state_at};
 ghost use Rattle.matcher_support.specs.Sets.{is_in_property};
-ghost use Rattle.pest_meta_c.specs.Compiled.{AreAttemptsTold, ArePathsTold, AreTold, HasStart, IsBlockStatus, IsCompiled, IsRefusalTold, IsTold, Tells, state_from, status_of};
-ghost use Rattle.pest_meta_c.specs.MatchOutcomes.{AreUnfit};
+ghost use Rattle.pest_meta_c.specs.Compiled.{AreAttemptsTold, ArePathsTold, AreTold, AreUnfit, HasStart, IsBlockStatus, IsCompiled, IsRefusalTold, IsTold, Tells, limit_in, state_from, status_of};
 ghost use Rattle.pest_meta.specs.Spelling.{HasRefusal, IsAnswer};
 
 use crate::paths::{PathCall, list_calls};
@@ -25,8 +25,8 @@ use base_language::runtime::{Fault, Position};
 use format_binary::{BinaryRefusal, read_optimized_rules};
 use matcher_code::state::TreeNode;
 use matcher_engine::block::{
-    BlockFlaw, BlockStop, attempts_block, bound_block, check_block, compile_block, expected_block,
-    guide_block, paths_block, run_block,
+    BlockFlaw, BlockStop, attempts_block, check_block, compile_block, expected_block, paths_block,
+    run_block,
 };
 use matcher_engine::matcher::Preorder;
 use matcher_program::answers::Stop;
@@ -44,7 +44,7 @@ const MEMORY: u8 = 2;
 const NO_TEXT: u8 = 3;
 /// The bytes are no rules, or no block.
 const NO_RULES: u8 = 5;
-/// The rules can't be run.
+/// The rules cannot be run.
 const UNFIT: u8 = 6;
 /// No rule has the number.
 const NO_RULE: u8 = 7;
@@ -225,8 +225,17 @@ pub extern "C" fn pest_meta_check(block: &[u8]) -> u8
     }
 }
 
-/// Runs the rule of a number from a byte of a text on, in at most `steps` steps, and hands out the nodes of a
-/// match. `end` is its end, or the furthest place of a failure.
+/// Returns the limit that a number of steps stands for: none, if it is the greatest number.
+fn limit_in(steps: u64) -> Option<u64>
+    ensures { result ≡ limit_in steps }
+{
+    if steps == u64::MAX { None } else { Some(steps) }
+}
+
+/// Runs the rule with the number `rule` from the byte `from` of `text` on. If it matches, the caller gets the
+/// nodes, and `end` is the end of the match; if it fails, `end` is the furthest position of a failure. Each
+/// run takes at most `steps` steps; `u64::MAX` means no limit. If there is none, no rule uses the stack, and
+/// the rule has an outcome, then that is the result: the status is not 8.
 #[unsafe(no_mangle)]
 pub extern "C" fn pest_meta_run<'a>(
     alloc: Global,
@@ -238,7 +247,12 @@ pub extern "C" fn pest_meta_run<'a>(
     nodes: &mut &'a [TreeNode],
     end: &mut usize,
 ) -> u8
-    ensures told { result ≢ 3 → IsTold block.now rule text.now from steps nodes.new.now end.new result }
+    ensures told { result ≢ 3 → IsTold block.now rule text.now from (steps_of (limit_in steps)) nodes.new.now
+        end.new result }
+    ensures answered { (g : Grammar) (classes : Classes) → IsBlockOf g classes block.now
+        → (n : Text) → last_place g n ≡ Some rule
+        → IsAmple g (operations_in block.now) (length text.now) (turns_of (limit_in steps))
+        → (o : Outcome) → HasAt g n (state_from text.now from) classes o → result ≢ 8 }
     ensures start { result ≢ 3 → HasStart text.now from }
     ensures no_start { result ≡ 3 → HasStart text.now from → ⊥ }
     ensures unchanged { result ≢ 0 → nodes.new ≡ nodes.old }
@@ -247,48 +261,8 @@ pub extern "C" fn pest_meta_run<'a>(
     let Some(start) = start_in(text, from) else {
         return NO_TEXT;
     };
-    tell_match(run_block(alloc, block, rule, start, steps), nodes, end)
-}
-
-/// Runs the rule of a number as `pest_meta_run`, and where that is out of steps, by a guided run in at most
-/// so many turns.
-#[unsafe(no_mangle)]
-pub extern "C" fn pest_meta_run_guided<'a>(
-    alloc: Global,
-    block: &[u8],
-    rule: u32,
-    text: &[u8],
-    from: usize,
-    steps: u64,
-    turns: u64,
-    nodes: &mut &'a [TreeNode],
-    end: &mut usize,
-) -> u8
-    ensures told { result ≢ 3 → IsTold block.now rule text.now from steps nodes.new.now end.new result }
-    ensures start { result ≢ 3 → HasStart text.now from }
-    ensures no_start { result ≡ 3 → HasStart text.now from → ⊥ }
-    ensures unchanged { result ≢ 0 → nodes.new ≡ nodes.old }
-    ensures end { result ≢ 0 → result ≢ 1 → end.new ≡ end.old }
-    ensures pinned { result ≡ 8
-        → IsUnguided (lists_at (part_of block.now 0)) text.now (rule + 3) from turns }
-{
-    let Some(start) = start_in(text, from) else {
-        return NO_TEXT;
-    };
-    tell_match(
-        guide_block(alloc, block, rule, start, steps, turns),
-        nodes,
-        end,
-    )
-}
-
-/// Returns how many turns suffice for `pest_meta_run_guided` on a text of so many bytes, or `u64::MAX` where
-/// no `u64` holds them.
-#[unsafe(no_mangle)]
-pub extern "C" fn pest_meta_bound(block: &[u8], bytes: usize) -> u64
-    ensures { result ≡ enough_turns (length (lists_at (part_of block.now 0)).ops) bytes }
-{
-    bound_block(block, bytes)
+    let outcome = run_block(alloc, block, rule, start, limit_in(steps));
+    tell_match(outcome, nodes, end)
 }
 
 /// Hands out the numbers of the rules that are expected at a place, in a run as by `pest_meta_run`.
@@ -321,7 +295,8 @@ pub extern "C" fn pest_meta_expected<'a>(
     }
 }
 
-/// Hands out the calls that are open where the rules of `pest_meta_expected` are expected, path by path.
+/// Returns the calls that are open at the rules of `pest_meta_expected`, path by path. The caller owns the
+/// list.
 #[unsafe(no_mangle)]
 pub extern "C" fn pest_meta_paths<'a>(
     alloc: Global,
@@ -354,8 +329,9 @@ pub extern "C" fn pest_meta_paths<'a>(
     }
 }
 
-/// Hands out the numbers of the rules that pest's error names where `pest_meta_run` fails, expected and not.
-/// `place` is asked first, and becomes the place of that error.
+/// Returns the indexes of the rules that pest's error names if `pest_meta_run` fails: those that are
+/// expected, and those that are not. The caller owns both lists. `place` is the first position to try, and
+/// becomes the position of that error.
 #[unsafe(no_mangle)]
 pub extern "C" fn pest_meta_attempts<'a>(
     alloc: Global,

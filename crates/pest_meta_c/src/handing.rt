@@ -1,8 +1,7 @@
 //! The result of a call for its caller: a status, bytes in a buffer, and their length.
 ghost use Rattle.std.specs.Prelude.{◌≡◌, ◌<◌, ◌≤◌, ◌++◌, drop, length};
-ghost use Rattle.pest_meta_c.specs.Handing.{AreBytesHandedOver, AreNumbersHandedOver, IsHandedOver, IsMatchHandedOver, IsPut};
+ghost use Rattle.pest_meta_c.specs.Handing.{AreBytesHandedOver, AreNumbersHandedOver, IsHandedOver, IsPut};
 
-use crate::matching::outcome::MatchOutcome;
 use crate::outcome::{BytesOutcome, CallError, NumbersError, NumbersOutcome, Outcome};
 
 /// The call is answered, and the answer is written.
@@ -15,19 +14,6 @@ const MEMORY: u8 = 2;
 const NO_TEXT: u8 = 3;
 /// The buffer is too small.
 const NO_ROOM: u8 = 4;
-/// The JSON is no list of optimized rules.
-const NO_RULES: u8 = 5;
-/// The rules can't be run.
-const UNFIT: u8 = 6;
-/// No rule has the name.
-const NO_RULE: u8 = 7;
-/// The run takes more steps than it may.
-const OUT_OF_STEPS: u8 = 8;
-/// The stack was empty for `PEEK` or `POP`.
-const EMPTY_STACK: u8 = 9;
-/// The text has 4 GiB or more.
-const LONG_TEXT: u8 = 10;
-
 /// Writes an outcome to the buffer `out`, its length to `needed`, and returns its status.
 pub(crate) fn hand_over(out: &mut [u8], needed: &mut usize, outcome: Outcome) -> u8
     ensures { IsHandedOver outcome out.old out.new needed.new result }
@@ -68,26 +54,8 @@ pub(crate) fn hand_over_numbers(
     }
 }
 
-/// Writes the outcome of a rule on a text to the buffer `out`, the count of its numbers to `needed`, and
-/// returns its status.
-pub(crate) fn hand_over_match(out: &mut [usize], needed: &mut usize, outcome: MatchOutcome) -> u8
-    ensures { IsMatchHandedOver outcome out.old out.new needed.new result }
-{
-    match outcome {
-        MatchOutcome::Matched(numbers) => put(out, needed, &numbers, ANSWERED),
-        MatchOutcome::Failed(numbers) => put(out, needed, &numbers, REFUSED),
-        MatchOutcome::NoRules => nothing(needed, NO_RULES),
-        MatchOutcome::Unfit => nothing(needed, UNFIT),
-        MatchOutcome::NoRule => nothing(needed, NO_RULE),
-        MatchOutcome::OutOfSteps => nothing(needed, OUT_OF_STEPS),
-        MatchOutcome::EmptyStack => nothing(needed, EMPTY_STACK),
-        MatchOutcome::LongText => nothing(needed, LONG_TEXT),
-        MatchOutcome::Memory => nothing(needed, MEMORY),
-    }
-}
-
 /// Returns a status with which nothing is written, with 0 in `needed`.
-fn nothing(needed: &mut usize, status: u8) -> u8
+pub(crate) fn nothing(needed: &mut usize, status: u8) -> u8
     ensures status { result ≡ status }
     ensures needed { needed.new ≡ 0 }
 {
@@ -106,7 +74,7 @@ pub(crate) fn no_text(needed: &mut usize) -> u8
 
 /// Puts items at the start of the buffer and returns that status, or writes nothing if they do not fit. Their
 /// count goes to `needed`.
-fn put<T: Copy>(out: &mut [T], needed: &mut usize, items: &[T], status: u8) -> u8
+pub(crate) fn put<T: Copy>(out: &mut [T], needed: &mut usize, items: &[T], status: u8) -> u8
     ensures { IsPut status items.now out.old out.new needed.new result }
 {
     *needed = items.len();

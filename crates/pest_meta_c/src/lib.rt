@@ -1,12 +1,13 @@
 //! The front end as a library for C and for Rust: texts and JSON go in, JSON goes out into a buffer of the
 //! caller. include/pest_meta.h has the calls.
 //!
-//! Inputs are UTF-8; outputs are JSON (docs/FORMAT.md) with positions in bytes. Every call returns a status:
-//! 0 for an answer, and 1 for a refusal, with JSON at the start of `out` and its length in `needed`; 2 for an
-//! allocation failure and 3 for an input that is not UTF-8, with nothing written and 0 in `needed`; 4 where
-//! `out` is too small, with nothing written and the length of the JSON in `needed`. `pest_meta_diagnostics`
-//! answers in lines of JSON, `pest_meta_grammar` and `pest_meta_prepare` in binary form, and
-//! `pest_meta_token_numbers`, `pest_meta_match` and `pest_meta_match_prepared` with numbers; the last two
+//! Inputs are UTF-8. Outputs are JSON (docs/FORMAT.md) with positions in bytes. Every call returns a status:
+//! - 0 for an answer, and 1 for a refusal: JSON is at the start of `out`, and its length is in `needed`;
+//! - 2 if an allocation fails, and 3 if an input is not UTF-8: nothing is written, and `needed` is 0;
+//! - 4 if `out` is too small: nothing is written, and the length of the JSON is in `needed`.
+//!
+//! `pest_meta_diagnostics` writes lines of JSON, `pest_meta_grammar` the binary form, and
+//! `pest_meta_token_numbers` numbers. The calls on compiled grammars return lists that the caller owns, and
 //! have more statuses.
 #![tactic(auto)]
 
@@ -14,22 +15,20 @@ mod calls;
 mod compiled;
 mod diagnostics;
 mod handing;
-mod matching;
+mod names;
 mod outcome;
 mod paths;
 mod web;
 
-ghost use Rattle.std.specs.Prelude.{◌≡◌, ◌≢◌, chars};
+ghost use Rattle.std.specs.Prelude.{◌≡◌, ◌≢◌};
 ghost use Rattle.std.specs.Str.{IsUtf8};
 ghost use Rattle.pest_meta_c.specs.Answers.{AreKeywordErrors, AreNames, AreNodes, AreOptimized, AreRules, AreTokenNumbers, AreTokens, IsGrammar, IsPrepared, IsVersion, IsWhole};
-ghost use Rattle.pest_meta_c.specs.MatchOutcomes.{IsMatchOutcome, IsPreparedOutcome};
 ghost use Rattle.pest_meta.specs.Spelling.{HasAnswer};
 ghost use Rattle.pest_meta_c.specs.Diagnostics.{AreDiagnostics};
-ghost use Rattle.pest_meta_c.specs.Handing.{HandsOver, HandsOverMatch, HandsOverNumbers};
+ghost use Rattle.pest_meta_c.specs.Handing.{HandsOver, HandsOverNumbers};
 ghost use Rattle.pest_meta_c.specs.Refusals.{HasNoMatch, HasNoNames, HasNoNodes, HasNoRules, HasNoTokens, IsNoOptimized, IsNoRules, IsRefused, Never};
 
-use crate::matching::run::{match_prepared, match_text};
-use handing::{hand_over, hand_over_bytes, hand_over_match, hand_over_numbers, no_text};
+use handing::{hand_over, hand_over_bytes, hand_over_numbers, no_text};
 use std::alloc::Global;
 
 /// Writes the tokens of a text for the rule of the meta-grammar of that name, from the text's start on.
@@ -92,8 +91,8 @@ pub extern "C" fn pest_meta_names(
     }
 }
 
-/// Writes the errors of a name as a keyword of Rust: one, with the span of the name, if it is a keyword, and
-/// else none.
+/// Writes a list of errors. If `name` is a keyword of Rust, it has one error with the span of the name. If
+/// not, it is empty.
 #[unsafe(no_mangle)]
 pub extern "C" fn pest_meta_rust_keyword(
     alloc: Global,
@@ -203,35 +202,6 @@ pub extern "C" fn pest_meta_grammar(
     }
 }
 
-/// Writes the tokens of a text by a rule of optimized rules in JSON, as numbers. The run takes at most
-/// `steps` steps.
-#[unsafe(no_mangle)]
-pub extern "C" fn pest_meta_match(
-    alloc: Global,
-    rules: &[u8],
-    rule: &[u8],
-    text: &[u8],
-    steps: u64,
-    out: &mut [usize],
-    needed: &mut usize,
-) -> u8
-    ensures hands { HandsOverMatch (IsMatchOutcome rules.now (chars rule.now) text.now steps)
-        out.old out.new needed.new result }
-    ensures texts { result ≢ 3 → IsUtf8 rules.now × IsUtf8 rule.now × IsUtf8 text.now }
-    ensures no_texts { result ≡ 3 → IsUtf8 rules.now × IsUtf8 rule.now × IsUtf8 text.now → ⊥ }
-{
-    match (
-        str::from_utf8(rules),
-        str::from_utf8(rule),
-        str::from_utf8(text),
-    ) {
-        (Ok(rules), Ok(rule), Ok(text)) => {
-            hand_over_match(out, needed, match_text(alloc, rules, rule, text, steps))
-        }
-        _ => no_text(needed),
-    }
-}
-
 /// Writes optimized rules in binary form, for optimized rules in JSON.
 #[unsafe(no_mangle)]
 pub extern "C" fn pest_meta_prepare(
@@ -248,31 +218,6 @@ pub extern "C" fn pest_meta_prepare(
     match str::from_utf8(rules) {
         Ok(rules) => hand_over_bytes(out, needed, calls::prepare(alloc, rules)),
         Err(_) => no_text(needed),
-    }
-}
-
-/// Writes the tokens of a text by a rule of optimized rules in binary form, as numbers. The run takes at most
-/// `steps` steps.
-#[unsafe(no_mangle)]
-pub extern "C" fn pest_meta_match_prepared(
-    alloc: Global,
-    rules: &[u8],
-    rule: &[u8],
-    text: &[u8],
-    steps: u64,
-    out: &mut [usize],
-    needed: &mut usize,
-) -> u8
-    ensures hands { HandsOverMatch (IsPreparedOutcome rules.now (chars rule.now) text.now steps)
-        out.old out.new needed.new result }
-    ensures texts { result ≢ 3 → IsUtf8 rule.now × IsUtf8 text.now }
-    ensures no_texts { result ≡ 3 → IsUtf8 rule.now × IsUtf8 text.now → ⊥ }
-{
-    match (str::from_utf8(rule), str::from_utf8(text)) {
-        (Ok(rule), Ok(text)) => {
-            hand_over_match(out, needed, match_prepared(alloc, rules, rule, text, steps))
-        }
-        _ => no_text(needed),
     }
 }
 

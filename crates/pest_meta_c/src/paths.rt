@@ -6,7 +6,7 @@ ghost use Rattle.pest_meta_c.specs.PathCalls.{calls_in, with_path};
 use matcher_code::state::OpenCall;
 use std::alloc::{AllocError, Global};
 
-/// A call of a path: the path's number, the row of its rule, and the position, in bytes, where it begins.
+/// A call of a path: the index of the path, the index of its rule, and the byte at which it begins.
 #[repr(C)]
 #[derive(Clone, Copy, Debug)]
 pub struct PathCall {

@@ -11,8 +11,8 @@ use format_grammar::{Formatted, Options, format};
 use pest_meta::{OpenError, open_unvalidated};
 use std::alloc::{AllocError, Global};
 
-/// Hands out the formatted text of a grammar. Status 1 says that its syntax is wrong, and status 6 that the
-/// text is formatted already.
+/// Returns the formatted text of a grammar, which the caller owns. Status 1 says that its syntax is wrong,
+/// and status 6 that the text is formatted already.
 #[unsafe(no_mangle)]
 pub extern "C" fn pest_meta_format<'a>(alloc: Global, text: &[u8], formatted: &mut &'a [u8]) -> u8
     ensures formatted { result ≡ 0 → IsFormatted LineFeed text.now formatted.new.now }
@@ -33,7 +33,8 @@ pub extern "C" fn pest_meta_format<'a>(alloc: Global, text: &[u8], formatted: &m
     }
 }
 
-/// Writes the document of a grammar, or nothing where the grammar is refused. Its rules may be wrong.
+/// Returns the document of a grammar. Its rules may have errors. Returns `None` if the grammar is refused for
+/// its syntax, its names or a flaw.
 fn page_of(alloc: Global, text: &str) -> Result<Option<String>, AllocError> {
     match open_unvalidated(alloc, text) {
         Ok(opened) => {
@@ -45,7 +46,8 @@ fn page_of(alloc: Global, text: &str) -> Result<Option<String>, AllocError> {
     }
 }
 
-/// Hands out the document of a grammar in HTML; its rules may be wrong. Status 1 says that it is refused.
+/// Returns the document of a grammar in HTML, which the caller owns. Its rules may have errors. Status 1 says
+/// that the grammar is refused for its syntax, its names or a flaw.
 #[unsafe(no_mangle)]
 pub extern "C" fn pest_meta_page<'a>(alloc: Global, text: &[u8], page: &mut &'a [u8]) -> u8
     ensures no_text { result ≡ 3 → IsUtf8 text.now → ⊥ }

@@ -2,6 +2,7 @@
 use Rattle.std.proofs.Common.{◌≡◌, ◌≢◌, ◌≤◌, ◌⊎◌, ◌∙◌, ◌∷◌, ◌++◌, ◌&&◌, ◌+◌, ap, ap₂, arith, inl, inr, refl, sym, subst, ℕ, Bool, true, false, List, [], None, Option, Some, drop, if◌then◌else◌, length, nat_le}
 use Rattle.std.specs.Prelude.{IsUtf8, option_map, string_bytes}
 use Rattle.std.proofs.Math.Utf8.{encodes}
+use Rattle.std.proofs.Math.Logic.{∥∥₁_map}
 use Rattle.std.proofs.lemmas.Bool.{true≢false}
 use Rattle.std.proofs.lemmas.Str.{encodes-chars}
 use Rattle.std.specs.Borrow.{Bor}
@@ -26,8 +27,11 @@ use Rattle.matcher_program.specs.Refusals.{IsReason}
 use Rattle.matcher_program.specs.declared.compile.Unfit.{Unfit}
 use Rattle.matcher_program.specs.declared.compile.Unfit.TheVariants as no
 use Rattle.matcher_engine.specs.BlockRuns.{IsStopped}
-use Rattle.matcher_engine.specs.Preorders.{HasPreorder}
-use Rattle.matcher_engine.specs.Recognitions.{HasEnd}
+use Rattle.matcher_engine.specs.Preorders.{HasEnd, HasPreorder}
+use Rattle.matcher_engine.specs.Limits.{steps_of}
+use Rattle.pest_run.specs.Steps.{match_limit, step_limit}
+use Rattle.matcher_engine.specs.Reasons as longer
+use Rattle.matcher_engine.specs.Reasons.{IsLonger}
 use Rattle.matcher_engine.specs.declared.block.runs.BlockStop.{BlockStop}
 use Rattle.matcher_engine.specs.declared.block.runs.BlockStop.TheVariants as block
 use Rattle.matcher_engine.specs.declared.matcher.Preorder.{Preorder}
@@ -72,11 +76,17 @@ any_limit g rule text few steps (block.Stopped stop.TextTooLong) other h = h
 any_limit g rule text few steps block.NoRule other h = h
 any_limit g rule text few steps (block.Flaw flaw) other h = h
 
+-- a longer run than one of some steps is longer than one of fewer
+longer_than : (g : Grammar) (rule text : List ℕ) (few steps : ℕ) → few ≤ steps → IsLonger g is_in_property (chars rule) (start_of text) steps → IsLonger g is_in_property (chars rule) (start_of text) few
+longer_than g rule text few steps below (longer.ends d more) = longer.ends d (omega (arith, below, more))
+longer_than g rule text few steps below (longer.comes w more) = longer.comes w (omega (arith, below, more))
+
 -- a run that takes too many steps takes more than a smaller number
 pub fewer_steps : (g : Grammar) (rule text : List ℕ) (few steps : ℕ) (why : BlockStop) → few ≤ steps → IsRefusedBy g rule text steps why → IsRefusedBy g rule text few why
 fewer_steps g rule text few steps (block.NoMatch place) below h = h
 fewer_steps g rule text few steps (block.Stopped stop.Memory) below h = h
-fewer_steps g rule text few steps (block.Stopped stop.OutOfSteps) below h = λ o d. omega (arith, below, h o d)
+fewer_steps g rule text few steps (block.Stopped stop.OutOfSteps) below h =
+    (λ o d. omega (arith, below, h.0 o d), ∥∥₁_map h.1 (longer_than g rule text few steps below))
 fewer_steps g rule text few steps (block.Stopped stop.EmptyStack) below h = h
 fewer_steps g rule text few steps (block.Stopped stop.TextTooLong) below h = h
 fewer_steps g rule text few steps block.NoRule below h = h
@@ -315,3 +325,10 @@ pub unfit : (g : Grammar) (rule name text : List ℕ) (format : Format) (limit :
 unfit g rule name text format limit no.Memory h = tt
 unfit g rule name text format limit (no.UnknownName called) h = (text_of called, h.0, h.1)
 unfit g rule name text format limit (no.Bound bound) h = (text_of bound, h.0, h.1)
+
+-- the limit of a match is no less than that of a rule that uses the stack
+pub within_match_limit : (limit : Option ℕ) (length : ℕ) (uses_stack : Bool) (most : Option ℕ) → most ≡ match_limit limit uses_stack length
+    → step_limit limit length ≤ steps_of most
+within_match_limit (Some steps) length uses_stack most e = subst (λ m. steps ≤ steps_of m) (sym e) (omega arith)
+within_match_limit None length true most e = subst (λ m. step_limit None length ≤ steps_of m) (sym e) (omega arith)
+within_match_limit None length false most e = subst (λ m. step_limit None length ≤ steps_of m) (sym e) (omega arith)

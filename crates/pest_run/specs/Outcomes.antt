@@ -15,7 +15,8 @@ use Rattle.base_language.specs.declared.runtime.errors.LineColLocation.TheVarian
 use Rattle.matcher_program.specs.Refusals.{IsBoundOf, IsNoCharacter, IsUnknown}
 use Rattle.matcher_program.specs.declared.compile.Unfit.{Unfit}
 use Rattle.matcher_program.specs.declared.compile.Unfit.TheVariants as unfit
-use Rattle.matcher_program.specs.Answers.{Has}
+use Rattle.matcher_engine.specs.Reasons.{IsLonger, ReadsEmptyStack}
+use Rattle.matcher_program.specs.Answers.{Has, start_of}
 use Rattle.matcher_program.specs.ExpectedNames.{each_once, name_texts}
 use Rattle.matcher_program.specs.Sizes.{most_steps}
 use Rattle.matcher_program.specs.declared.answers.Stop.{Stop}
@@ -65,10 +66,12 @@ pub record IsShown (g : Grammar) (rule text : List ℕ) (format : Format) (lines
   pub matches : Has g (chars rule) text is_in_property (Success end_ trees)
   pub lines_show : lines ≡ trees_text format text end_.position trees
 
--- for each outcome of the rule the matcher may take more steps than the limit
+-- for each outcome of the rule the matcher may take more steps than the limit, and so does a run, also where
+-- there is none
 abbrev pub TakesTooManySteps : Grammar → List ℕ → List ℕ → ℕ → Type 0
-TakesTooManySteps g rule text limit = (o : Result) (found : Has g (chars rule) text is_in_property o)
-    → limit < most_steps found
+TakesTooManySteps g rule text limit =
+    ((o : Result) (found : Has g (chars rule) text is_in_property o) → limit < most_steps found)
+    × ∥ IsLonger g is_in_property (chars rule) (start_of text) limit ∥₁
 
 -- the rule, called at the start of the text, succeeds, and the note, if there is one, tells where it ends,
 -- and the names that are expected at its furthest failure; or that these were not found in so many steps, and
@@ -119,9 +122,10 @@ pub record HasUnnamed (g : Grammar) (rule name text : List ℕ) (limit : ℕ) (r
 abbrev pub HasNoRule : Grammar → List ℕ → Type 0
 HasNoRule g rule = rule_of g (chars rule) ≡ None
 
--- the rule, called at the start of the text, has no outcome
+-- the rule, called at the start of the text, has no outcome, and a run reads the empty stack
 abbrev pub HasNoOutcome : Grammar → List ℕ → List ℕ → Type 0
-HasNoOutcome g rule text = (o : Result) → Has g (chars rule) text is_in_property o → ⊥
+HasNoOutcome g rule text = ((o : Result) → Has g (chars rule) text is_in_property o → ⊥)
+    × ∥ ReadsEmptyStack g is_in_property (chars rule) (start_of text) ∥₁
 
 -- some rule calls a name that no rule has, and that is no builtin's with a known set
 abbrev pub CallsUnknownName : Grammar → Type 0

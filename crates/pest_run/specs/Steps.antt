@@ -1,5 +1,5 @@
 -- The limits of the steps of a match, and of a search for names.
-use Rattle.std.specs.Prelude.{ℕ, ◌+◌, ◌*◌, ◌-◌, ◌^◌, ◌<◌, List, Option, Some, None, SomeIff, min}
+use Rattle.std.specs.Prelude.{ℕ, Bool, false, true, ◌+◌, ◌*◌, ◌-◌, ◌^◌, ◌<◌, List, Option, Some, None, SomeIff, min}
 use Rattle.std.specs.Str.Parse.{IsNumeral, digits_value, without_leading_plus}
 use Rattle.pest_run.specs.declared.arguments.Limits.{Limits}
 
@@ -8,14 +8,16 @@ abbrev pub CountsSteps : List ℕ → Option ℕ → Type 0
 CountsSteps text steps = let digits = without_leading_plus text in
     SomeIff steps (IsNumeral 10 digits × (digits_value 10 digits < 2 ^ 64)) (digits_value 10 digits)
 
--- 2^14 steps, and 32 more for each byte of a text of this length, as far as they can be counted
-abbrev pub first_steps : ℕ → ℕ
-first_steps length = min (32 * (length + 512)) (2 ^ 64 - 1)
-
--- the given limit, or 2^28 steps, and 4,096 more for each byte
+-- the given limit, or 2^28 steps, and 4,096 more for each byte, but no more than a match without a limit has
 abbrev pub step_limit : Option ℕ → ℕ → ℕ
 step_limit (Some steps) length = steps
-step_limit None length = min (4096 * (length + 65536)) (2 ^ 64 - 1)
+step_limit None length = min (4096 * (length + 65536)) (2 ^ 62 - 1)
+
+-- the limit of a match: the given one, or that of a rule that uses the stack, or none
+abbrev pub match_limit : Option ℕ → Bool → ℕ → Option ℕ
+match_limit (Some steps) uses_stack length = Some steps
+match_limit None true length = Some (step_limit None length)
+match_limit None false length = None
 
 -- the given limit, or 2^23 steps, and 32 more for each byte
 abbrev pub name_limit : Option ℕ → ℕ → ℕ

@@ -3,7 +3,7 @@ ghost use Rattle.std.specs.Prelude.{◌≡◌, ◌∷◌, ℕ, List, [], IfOk, N
 ghost use Rattle.clap.specs.Matches.{first_value, found_of, one_text};
 ghost use Rattle.clap.specs.Simple.{app_of};
 ghost use Rattle.program_support.specs.Arguments.{HasForm, arguments_of, flag, option, positional};
-ghost use Rattle.pest_run.specs.Steps.{CountsSteps, first_steps, limits_of, name_limit, step_limit};
+ghost use Rattle.pest_run.specs.Steps.{CountsSteps, limits_of, name_limit, step_limit};
 
 use clap::builder::ValueParser;
 use clap::{Arg, ArgMatches, Command};
@@ -231,13 +231,14 @@ pub fn steps_of(matches: &ArgMatches<'_>) -> Option<u64>
 /// The greatest numbers of steps on a text.
 #[derive(Clone, Copy, Debug)]
 pub struct Limits {
-    /// The limit of a match. A rule that does not use the stack has one only if it is given.
+    /// The limit of a match, if the rule uses the stack. Another rule has a limit only if the user gave one.
     pub steps: u64,
     /// The limit of each search for names that are expected, and for calls that are open.
     pub names: u64,
 }
 
-/// Returns the limits on a text of this length, in bytes, where this many steps are given, or none.
+/// Returns the limits on a text of `length` bytes. `steps` is the number of steps that the user gave, if
+/// there is one.
 pub fn limits_of(steps: Option<u64>, length: usize) -> Limits
     ensures { result ≡ limits_of steps length }
 {
@@ -247,14 +248,20 @@ pub fn limits_of(steps: Option<u64>, length: usize) -> Limits
     }
 }
 
-/// Returns the greatest number of steps of a match on a text of this length, in bytes, by a rule that uses
-/// the stack: the given number, or else 2^28, and 4,096 more for each byte.
+/// The steps of a match without a limit: a `u64` of operations has as many.
+const MOST_STEPS: u64 = u64::MAX / 4;
+
+/// Returns the greatest number of steps of a match on a text of `length` bytes by a rule that uses the stack:
+/// `steps`, if it is given, or else 2^28, and 4,096 more for each byte.
 pub fn step_limit(steps: Option<u64>, length: usize) -> u64
     ensures { result ≡ step_limit steps length }
 {
     match steps {
         Some(steps) => steps,
-        None => (length as u64).saturating_add(65_536).saturating_mul(4_096),
+        None => (length as u64)
+            .saturating_add(65_536)
+            .saturating_mul(4_096)
+            .min(MOST_STEPS),
     }
 }
 
@@ -267,12 +274,4 @@ pub fn name_limit(steps: Option<u64>, length: usize) -> u64
         Some(steps) => steps,
         None => (length as u64).saturating_add(262_144).saturating_mul(32),
     }
-}
-
-/// Returns the number of steps, on a text of this length, in bytes, after which a guided run takes a run's
-/// place: 16,384, and 32 more for each byte. The machine remembers calls after as many.
-pub fn first_steps(length: usize) -> u64
-    ensures { result ≡ first_steps length }
-{
-    (length as u64).saturating_add(512).saturating_mul(32)
 }

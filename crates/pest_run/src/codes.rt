@@ -31,7 +31,7 @@ use program_support::status::Status;
 use std::alloc::Global;
 use std::io::Write;
 
-/// The status where a file is no compiled grammar of this version, or was changed.
+/// The exit status if a file is no compiled grammar of this version, or was changed.
 const NO_CODE: u8 = 6;
 
 /// Returns whether a file is read as a compiled grammar: its name ends with `.code`, or its bytes begin with
@@ -50,7 +50,7 @@ fn begins_as_code(bytes: &[u8]) -> bool
 }
 
 /// Matches a text by the requested rule of a compiled grammar, both read from files, and prints the trees to
-/// `out`, as `run` does for the rules that were compiled. A file that can't be read, and a text that is not
+/// `out`, as `run` does for the rules that were compiled. A file that cannot be read, and a text that is not
 /// UTF-8, is reported on `err` (3), and so is a file that is no compiled grammar of this version, or was
 /// changed (6).
 pub fn run_code<W: Write, E: Write>(
@@ -134,9 +134,15 @@ fn why_refused(code: &[u8]) -> &'static str
     }
 }
 
-/// Compiles the optimized rules of a grammar, read from a file, to a block. Otherwise the end of the run is
-/// returned, after a line on `err`: the report of a grammar that is refused (1), `out of memory` (2), why the
-/// file can't be read (3), or that the rules can't be run (5). `reading` tells of a refusal.
+/// Compiles the optimized rules of a grammar, which was read from a file, to a block. `reading` has the
+/// reason if the grammar is refused.
+///
+/// # Errors
+/// The exit status, after a line on `err`:
+/// - 1 and the report, if the grammar is refused;
+/// - 2 and `out of memory`, if an allocation fails;
+/// - 3 and the reason, if the file cannot be read;
+/// - 5, if the rules cannot be run.
 pub fn compile_file<'g, E: Write>(
     alloc: Global,
     grammar: &'g Source<'_>,
@@ -165,7 +171,7 @@ pub fn compile_file<'g, E: Write>(
     }
 }
 
-/// Compiles the optimized rules of an opened grammar to a block, or reports why they can't be run.
+/// Compiles the optimized rules of an opened grammar to a block, or reports why they cannot be run.
 fn compile_opened<E: Write>(
     alloc: Global,
     opened: OpenGrammar<'_>,
@@ -187,7 +193,7 @@ fn compile_opened<E: Write>(
     }
 }
 
-/// Compiles optimized rules to a block, or reports why they can't be run.
+/// Compiles optimized rules to a block, or reports why they cannot be run.
 fn compile_rules<E: Write>(
     alloc: Global,
     rules: &[OptimizedRule],

@@ -1,4 +1,4 @@
-//! Explanations of failures: the calls that are open where a rule fails on a text.
+//! Explanations of failures: the calls that are open at the position at which a rule fails on a text.
 ghost use Rattle.std.specs.Prelude.{◌≡◌, ℕ, List, IfErr, IfOk, chars, length, string_bytes};
 ghost use Rattle.std.specs.Str.{IsCharBoundary};
 ghost use Rattle.base_ast.specs.Optimized.{optimized_rules_of};
@@ -25,7 +25,7 @@ use matcher_code::state::OpenCall;
 use matcher_engine::block::{BlockStop, compile_block};
 use matcher_program::answers::Stop;
 use matcher_support::attempts::NamedAttempts;
-use matcher_support::compiled::CompiledRules;
+use matcher_support::compiled::CompiledGrammar;
 use matcher_support::unicode_properties::UnicodeProperties;
 use program_support::output::{Output, RefusedWrite};
 use std::alloc::{AllocError, Global};
@@ -36,7 +36,7 @@ use std::io::Write;
 pub enum Explanation {
     /// The calls are found, and shown.
     Shown(String),
-    /// They are not found in so many steps, and the message says so.
+    /// The calls are not found within the limit of steps. The text is the message that says so.
     OutOfSteps(String),
     /// An allocation failed, or there are too many lists of them.
     Memory,
@@ -44,14 +44,14 @@ pub enum Explanation {
     NoFailure,
 }
 
-/// The message where an allocation failed.
+/// The message if an allocation failed.
 const UNSTORED: &str =
     "the open calls were not found: out of memory, or more than 1024 lists of them";
 
-/// Prints the calls that are open where the requested rule of a grammar fails on a text, and where each
-/// begins: to `out` as a line of JSON, if that is the format, else to `err`. The rule is run anew. Where the
-/// calls are not found, a line on `err` says so; nothing is written where the rule does not fail, or the text
-/// can't be read.
+/// Prints the calls that are open at the position at which the requested rule of a grammar fails on a text,
+/// and the start of each call. If the format is JSON, the calls are a line on `out`. If not, they are lines
+/// on `err`. The rule is run anew. If the calls are not found, a line on `err` says so. If the rule does not
+/// fail, or if the text cannot be read, nothing is written.
 pub fn explain_failure<W: Write, E: Write>(
     alloc: Global,
     grammar: &GrammarRules,
@@ -76,8 +76,8 @@ pub fn explain_failure<W: Write, E: Write>(
     write_explanation(&explanation, request.format, out, err)
 }
 
-/// Prints the calls that are open where the requested rule of a compiled grammar fails on a text, as
-/// `explain_failure`.
+/// Prints the calls that are open at the position at which the requested rule of a compiled grammar fails on
+/// a text, as `explain_failure`.
 pub fn explain_code<W: Write, E: Write>(
     alloc: Global,
     code: &Source<'_>,
@@ -149,8 +149,8 @@ fn explanation_of(
     }
 }
 
-/// Returns the explanation of a failure of the rule of that name, in so many steps at most. Rules that can't
-/// be run count as an allocation failure: none of them fails.
+/// Returns the explanation of a failure of the rule named `rule`, by runs of at most `steps` steps. If the
+/// rules cannot be run, the answer is that of an allocation failure, since no rule fails.
 fn explain_rules(
     alloc: Global,
     rules: &[OptimizedRule],
@@ -179,7 +179,7 @@ fn explain_block(
     ensures { (rules : List OptimizedRule) → IsCompiled rules block.now
         → IsExplanation (optimized_rules_of rules) rule.now text.now format steps result }
 {
-    match CompiledRules::read(alloc, block) {
+    match CompiledGrammar::read(alloc, block) {
         Ok(Some(grammar)) => explain_compiled(alloc, &grammar, rule, text, format, steps),
         Ok(None) | Err(_) => Explanation::Memory,
     }
@@ -188,7 +188,7 @@ fn explain_block(
 /// Returns the explanation as `explain_rules`, by a compiled grammar of the rules.
 fn explain_compiled(
     alloc: Global,
-    rules: &CompiledRules<'_>,
+    rules: &CompiledGrammar<'_>,
     rule: &str,
     text: &str,
     format: Format,
@@ -209,7 +209,7 @@ fn explain_compiled(
 /// Returns the explanation of a failure whose report shows this place.
 fn explain_at(
     alloc: Global,
-    rules: &CompiledRules<'_>,
+    rules: &CompiledGrammar<'_>,
     rule: &str,
     text: &str,
     place: usize,
@@ -229,11 +229,11 @@ fn explain_at(
     }
 }
 
-/// Returns the failure of the rule of that name on a text, with the position that the report of it shows, in
-/// so many steps at most. The error is the explanation where there is no failure, or none is found.
+/// Returns the failure of the rule named `rule` on `text`, with the position that its report shows, by runs
+/// of at most `steps` steps. If there is no failure, or none is found, the error is the explanation.
 fn find_reported<'a>(
     alloc: Global,
-    rules: &'a CompiledRules<'a>,
+    rules: &'a CompiledGrammar<'a>,
     rule: &'a str,
     text: &'a str,
     steps: u64,
@@ -244,7 +244,7 @@ fn find_reported<'a>(
     ensures unexplained { (g : Grammar) → IsCompiledOf g rules.entry.now → (format : Format)
         → IfErr result (IsExplanation g rule.entry.now text.entry.now format steps) }
 {
-    let stop = match rules.match_text(alloc, rule, text, steps) {
+    let stop = match rules.match_text(alloc, rule, text, Some(steps)) {
         Ok(_) => return Err(Explanation::NoFailure),
         Err(stop) => stop,
     };
@@ -258,7 +258,7 @@ fn find_reported<'a>(
 /// Returns the failure as `find_reported`, by its furthest position.
 fn find_shown<'a>(
     alloc: Global,
-    rules: &'a CompiledRules<'a>,
+    rules: &'a CompiledGrammar<'a>,
     rule: &'a str,
     text: &'a str,
     furthest: usize,
@@ -301,7 +301,7 @@ fn shown_explanation(
     }
 }
 
-/// Returns the explanation of a run without an answer, of so many steps at most.
+/// Returns the explanation of a run of at most `steps` steps that has no answer.
 fn refusal_explanation(alloc: Global, stop: BlockStop, steps: u64) -> Explanation
     ensures { (g : Grammar) (rule text : List ℕ) (format : Format) → IsUnanswered g rule text steps stop
         → IsExplanation g rule text format steps result }
@@ -312,8 +312,8 @@ fn refusal_explanation(alloc: Global, stop: BlockStop, steps: u64) -> Explanatio
     }
 }
 
-/// Returns the explanation of a run that was stopped, of so many steps at most. A text of 4 GiB counts as an
-/// allocation failure.
+/// Returns the explanation of a run of at most `steps` steps that was stopped. For a text of 4 GiB it is that
+/// of an allocation failure.
 fn stop_explanation(alloc: Global, stop: Stop, steps: u64) -> Explanation
     ensures { (g : Grammar) (rule text : List ℕ) (format : Format)
         → IsStopped g (chars rule) (start_of text) is_in_property steps stop
@@ -329,7 +329,7 @@ fn stop_explanation(alloc: Global, stop: Stop, steps: u64) -> Explanation
     }
 }
 
-/// Returns the message that the open calls were not found in so many steps. The only error is an allocation
+/// Returns the message that the open calls were not found in `steps` steps. The only error is an allocation
 /// failure.
 fn unfound_message(alloc: Global, steps: u64) -> Result<String, AllocError>
     ensures { IfOk result (λ message. string_bytes message ≡ unfound_text steps) }

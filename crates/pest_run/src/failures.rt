@@ -1,5 +1,5 @@
-//! Names that the report of a failure tells, and its position: the names that are expected at the furthest
-//! failure, or, where there are none, those of pest's own error.
+//! The names and the position of the report of a failure. The names are those that are expected at the
+//! furthest failure. If there are none, they are those of pest's own error.
 ghost use Rattle.std.specs.Prelude.{◌≡◌, IfErr, IfOk, IfSome, IsErr, true};
 ghost use Rattle.std.specs.Str.{IsCharBoundary};
 ghost use Rattle.base_language.specs.Language.Expression.{Grammar};
@@ -12,15 +12,18 @@ use crate::messages::is_more;
 use matcher_engine::block::BlockStop;
 use matcher_engine::matcher::Preorder;
 use matcher_support::attempts::NamedAttempts;
-use matcher_support::compiled::CompiledRules;
+use matcher_support::compiled::CompiledGrammar;
 use std::alloc::Global;
 
-/// Looks for the names that are expected at the furthest failure; where there are none, for those of pest's
-/// own error, and its position. Where that has none either, or they are not found in so many steps or
-/// for want of memory, no name is told. Errors are those of `CompiledRules::expected_at`.
+/// Looks for the names that are expected at the furthest failure. If there are none, it looks for those of
+/// pest's own error, and for the position of that error. No name is returned if that error has none, if they
+/// are not found within the limit of steps, or if an allocation fails.
+///
+/// # Errors
+/// Those of `CompiledGrammar::expected_at`.
 pub fn find_failure<'a>(
     alloc: Global,
-    rules: &'a CompiledRules<'a>,
+    rules: &'a CompiledGrammar<'a>,
     rule: &'a str,
     text: &'a str,
     furthest: usize,
@@ -46,11 +49,11 @@ pub fn find_failure<'a>(
     })
 }
 
-/// Looks for the names of pest's own error, first at a place, in so many steps at most for each run. Returns
-/// none where the error has no name, or it is not found.
+/// Looks for the names of pest's own error, first at the byte `place`, by runs of at most `steps` steps.
+/// Returns `None` if the error has no name, or if it is not found.
 fn find_attempts<'a>(
     alloc: Global,
-    rules: &'a CompiledRules<'a>,
+    rules: &'a CompiledGrammar<'a>,
     rule: &'a str,
     text: &'a str,
     place: usize,
@@ -71,11 +74,14 @@ fn find_attempts<'a>(
     }
 }
 
-/// Looks for the names that are expected at the furthest failure of a match, in so many steps at most, if the
-/// note on its end tells them. Errors are those of `CompiledRules::expected_at`.
+/// Looks for the names that are expected at the furthest failure of a match, by a run of at most `steps`
+/// steps, if the note on its end has them.
+///
+/// # Errors
+/// Those of `CompiledGrammar::expected_at`.
 pub fn names_after<'a>(
     alloc: Global,
-    rules: &'a CompiledRules<'a>,
+    rules: &'a CompiledGrammar<'a>,
     rule: &'a str,
     text: &'a str,
     found: &Preorder,

@@ -10,13 +10,14 @@ use crate::arguments::{Request, RuleForm, name_limit};
 use crate::grammars::GrammarRules;
 use crate::sources::{Source, text_of};
 use base_ast::optimized::{OptimizedRule, release};
-use matcher_engine::matcher::Matcher;
+use matcher_engine::block::compile_block;
+use matcher_support::compiled::CompiledGrammar;
 use matcher_support::unicode_properties::UnicodeProperties;
 use program_support::output::{Output, RefusedWrite};
 use std::alloc::Global;
 use std::io::Write;
 
-/// The note where the optimized rules match a text.
+/// The note if the optimized rules match a text.
 const OPTIMIZED_MATCH: &str =
     "note: the optimized rules, which pest runs, match this text: see --optimized";
 
@@ -45,8 +46,8 @@ pub fn note_forms<E: Write>(
     }
 }
 
-/// Returns whether the optimized rules of a grammar match a text. No match is found where an allocation
-/// failed or the run is stopped.
+/// Returns whether the optimized rules of a grammar match `text`. If an allocation fails or the run is
+/// stopped, no match is found.
 fn are_matched(alloc: Global, grammar: &GrammarRules, text: &str, request: Request<'_>) -> bool
     ensures { (spelled : List ℕ) → IsReadFrom spelled grammar.now → result ≡ true
         → IsMatchedBy RuleForm.Optimized spelled request.entry.rule.now text.now }
@@ -60,15 +61,18 @@ fn are_matched(alloc: Global, grammar: &GrammarRules, text: &str, request: Reque
     matched
 }
 
-/// Returns whether the rule of a name matches a text, in so many steps at most. Names that are expected at a
-/// failure are not looked for.
+/// Returns whether the rule named `rule` matches `text`, by a run of at most `steps` steps. The expected
+/// names of a failure are not looked for.
 fn has_match(alloc: Global, rules: &[OptimizedRule], rule: &str, text: &str, steps: u64) -> bool
     ensures { result ≡ true → HasMatch (optimized_rules_of rules.now) rule.now text.now }
 {
-    let Ok(matcher) = Matcher::new(alloc, rules, &UnicodeProperties) else {
+    let Ok(block) = compile_block(alloc, rules, &UnicodeProperties) else {
         return false;
     };
-    matcher.match_text(alloc, rule, text, steps).is_ok()
+    match CompiledGrammar::read(alloc, &block) {
+        Ok(Some(grammar)) => grammar.match_text(alloc, rule, text, Some(steps)).is_ok(),
+        Ok(None) | Err(_) => false,
+    }
 }
 
 /// Writes the note to `err`.

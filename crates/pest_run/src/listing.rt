@@ -17,7 +17,7 @@ use std::alloc::Global;
 use std::io::Write;
 
 /// Prints the names of the rules of a grammar, read from a file, to `out`, as `list_rules` does. A file that
-/// can't be read or is not UTF-8 is reported on `err` with its name and the reason (3).
+/// cannot be read or is not UTF-8 is reported on `err` with its name and the reason (3).
 pub fn list_file<W: Write, E: Write>(
     alloc: Global,
     grammar: &Source<'_>,
@@ -54,11 +54,15 @@ pub fn list_file<W: Write, E: Write>(
     }
 }
 
-/// Prints the names of a grammar's rules to `out`, a line each, in the order of the grammar (0).
+/// Prints the names of a grammar's rules to `out`, one a line, in the order of the grammar. Then the exit
+/// status is 0.
 ///
-/// Otherwise one text with a line break at its end goes to `err`: the report of a grammar that is refused
-/// (1); `out of memory` (2); `cannot write` where `out` refuses a write (4). A write that `err` refuses
-/// changes no status.
+/// If that is not possible, one text with a line break at its end is written to `err`:
+/// - the report, if the grammar is refused (status 1);
+/// - `out of memory`, if an allocation fails (2);
+/// - `cannot write`, if `out` refuses a write (4).
+///
+/// If `err` refuses a write, the status stays the same.
 pub fn list_rules<W: Write, E: Write>(
     alloc: Global,
     grammar: &str,

@@ -48,7 +48,7 @@ use std::io::{self, IsTerminal, Stderr, Write};
 use std::process::ExitCode;
 
 /// Reads the file of that name, or standard input for `-`. The source has the bytes, or the reason why they
-/// can't be read.
+/// cannot be read.
 fn source<'a>(rt: &HostRuntime, name: &'a str) -> Result<Source<'a>, AllocError> {
     let alloc = rt.alloc();
     let (bytes, why) = match read_input(rt, name) {
@@ -58,7 +58,7 @@ fn source<'a>(rt: &HostRuntime, name: &'a str) -> Result<Source<'a>, AllocError>
     Ok(Source { name, bytes, why })
 }
 
-/// Returns the file of a grammar for what needs its text: a compiled grammar counts as a file that can't be
+/// Returns the file of a grammar for what needs its text: a compiled grammar counts as a file that cannot be
 /// read. The only error is an allocation failure.
 fn text_source<'a>(rt: &HostRuntime, grammar: Source<'a>) -> Result<Source<'a>, AllocError>
     ensures code { IfOk result (λ source. is_code grammar.entry.name.now grammar.entry.bytes.items ≡ true
@@ -155,7 +155,7 @@ fn match_by_code(rt: &HostRuntime, code: &Source<'_>, text: &Source<'_>, request
     status
 }
 
-/// Compiles a grammar to the file of a name, with the process's own output, and returns the status.
+/// Compiles a grammar to the file named `target`, with the process's own output, and returns the exit status.
 fn compile(rt: &HostRuntime, grammar: &Source<'_>, target: &str) -> Result<u8, AllocError> {
     let alloc = rt.alloc();
     let mut err = error_output(rt);
@@ -179,7 +179,7 @@ fn compile(rt: &HostRuntime, grammar: &Source<'_>, target: &str) -> Result<u8, A
     }
 }
 
-/// Writes bytes to the file of a name, or to standard output for `-`.
+/// Writes `bytes` to the file named `name`, or to standard output for `-`.
 fn write_code(rt: &HostRuntime, name: &str, bytes: &[u8]) -> io::Result<()> {
     if name == "-" {
         let mut stdout = rt.stdout();

@@ -49,7 +49,7 @@ fn suggest(alloc: Global, names: &[&str]) -> Result<String, AllocError>
     Ok(question)
 }
 
-/// Returns the message that a file can't be read, and why. The only error is an allocation failure.
+/// Returns the message that a file cannot be read, and why. The only error is an allocation failure.
 pub fn unread_message(alloc: Global, name: &str, why: &str) -> Result<String, AllocError>
     ensures { IfOk result (λ message. string_bytes message ≡ unread_text name.now why.now) }
 {
@@ -76,7 +76,7 @@ pub fn code_message(alloc: Global, name: &str, why: &str) -> Result<String, Allo
     Ok(message)
 }
 
-/// Returns a number of steps to try where this many do not suffice.
+/// Returns a number of steps to try if `steps` steps are not enough.
 pub fn more_steps(steps: u64) -> u64
     ensures { result ≡ more_steps steps }
 {
@@ -105,7 +105,7 @@ pub fn stack_message(alloc: Global, steps: u64, user: &str) -> Result<String, Al
     Ok(message)
 }
 
-/// Returns the message that the expected set of a failure was not found in so many steps. The only error is
+/// Returns the message that the expected set of a failure was not found in `steps` steps. The only error is
 /// an allocation failure.
 pub fn unnamed_message(alloc: Global, steps: u64) -> Result<String, AllocError>
     ensures { IfOk result (λ message. string_bytes message ≡ unnamed_text steps) }
@@ -123,7 +123,7 @@ pub fn is_more(rest: &str) -> bool
     !(rest.is_empty() || rest == "\n" || rest == "\r\n")
 }
 
-/// The message where no name is expected.
+/// The message if no name is expected.
 const NONE_EXPECTED: &str =
     "no rule is expected here: what failed gives no token, or stands below a `!`";
 
@@ -191,8 +191,8 @@ fn add_expected_too(alloc: Global, message: &mut String, names: &[&str]) -> Resu
     message.push_str(expected.as_str())
 }
 
-/// Returns the note that a match ends at a byte position, and where the text ends; and, if the furthest
-/// failure, at another byte position, is no earlier, the names that are expected there. Both positions are
+/// Returns the note that a match ends at one byte, and the text at another. If the furthest failure is not
+/// before the end of the match, the note also has the names that are expected there. Both positions are
 /// between two characters. The only error is an allocation failure.
 pub fn end_message(
     alloc: Global,
@@ -215,9 +215,9 @@ pub fn end_message(
     Ok(note)
 }
 
-/// Returns the note that a match ends at a byte position, and where the text ends; and that what is expected
-/// at the furthest failure, at another byte position, was not found in so many steps. Both positions are
-/// between two characters. The only error is an allocation failure.
+/// Returns the note that a match ends at one byte, and the text at another, and that the names that are
+/// expected at the furthest failure were not found in `steps` steps. Both positions are between two
+/// characters. The only error is an allocation failure.
 pub fn unnamed_note(
     alloc: Global,
     text: &str,
@@ -241,8 +241,8 @@ pub fn unnamed_note(
     Ok(note)
 }
 
-/// Returns the note that a match ends at a byte position, between two characters, and where the text ends.
-/// The only error is an allocation failure.
+/// Returns the note that a match ends at the byte `end`, between two characters, and at which byte the text
+/// ends. The only error is an allocation failure.
 fn end_note(alloc: Global, text: &str, end: usize) -> Result<String, AllocError>
     requires { IsCharBoundary text.now end }
     ensures { IfOk result (λ note. string_bytes note
@@ -257,7 +257,7 @@ fn end_note(alloc: Global, text: &str, end: usize) -> Result<String, AllocError>
     note_between(alloc, ended.line_col(), last.line_col())
 }
 
-/// Returns the words that something was not found in so many steps. The only error is an allocation failure.
+/// Returns the words that something was not found in `steps` steps. The only error is an allocation failure.
 fn steps_note(alloc: Global, steps: u64) -> Result<String, AllocError>
     ensures { IfOk result (λ words. string_bytes words ≡ not_found_text steps) }
 {

@@ -33,7 +33,7 @@ use matcher_engine::walk::TreeWalk;
 use matcher_program::answers::Stop;
 use matcher_program::compile::Unfit;
 use matcher_support::attempts::NamedAttempts;
-use matcher_support::compiled::CompiledRules;
+use matcher_support::compiled::CompiledGrammar;
 use matcher_support::json::tree_json;
 use matcher_support::lines::tree_lines;
 use matcher_support::shown::tree_text;
@@ -51,8 +51,8 @@ pub enum Outcome {
     Shown { lines: String, note: Option<String> },
     /// The rule fails; the report has the position and the expected set.
     Failed(String),
-    /// The rule fails; the report has the position, and says that the expected set was not found in so many
-    /// steps.
+    /// The rule fails. The report has the position, and says that the expected set was not found within the
+    /// limit of steps.
     Unnamed(String),
     /// The grammar has no rule of that name, and the message says so.
     NoRule(String),
@@ -70,8 +70,8 @@ pub enum Outcome {
     Memory,
 }
 
-/// Runs the rule of that name on the text of a file, and returns the outcome: in so many steps at most, if a
-/// limit is given, and else in as many as `step_limit` allows.
+/// Runs the requested rule on the text of a file, and returns the outcome. If a limit is given, the run has
+/// at most that number of steps. If not, it has the limit of `match_rule`.
 pub fn outcome_of(
     alloc: Global,
     rules: &[OptimizedRule],
@@ -108,7 +108,7 @@ pub fn block_outcome(
         (IsOutcome (optimized_rules_of rules) rule.now name.now text.now format
         (limits_of limit (length text.now))) }
 {
-    match CompiledRules::read(alloc, block) {
+    match CompiledGrammar::read(alloc, block) {
         Ok(Some(grammar)) => match find_stack_rule(alloc, block, grammar.rule_names(), rule) {
             Ok(user) => run_outcome(alloc, &grammar, rule, name, text, format, limit, user),
             Err(_) => Some(Outcome::Memory),
@@ -122,7 +122,7 @@ pub fn block_outcome(
 /// comes to one.
 fn run_outcome(
     alloc: Global,
-    rules: &CompiledRules<'_>,
+    rules: &CompiledGrammar<'_>,
     rule: &str,
     name: &str,
     text: &str,
@@ -154,11 +154,11 @@ fn run_outcome(
     }
 }
 
-/// Returns the outcome of a rule that matches a text. Returns none where the positions of the match are not
+/// Returns the outcome of a rule that matches a text. Returns `None` if a position of the match is not
 /// between two characters.
 fn match_outcome(
     alloc: Global,
-    rules: &CompiledRules<'_>,
+    rules: &CompiledGrammar<'_>,
     rule: &str,
     text: &str,
     found: &Preorder,
@@ -188,11 +188,11 @@ fn match_outcome(
     }
 }
 
-/// Returns the outcome of a rule that fails on the text of a file, with its furthest failure at a byte
-/// position. Returns none where that is not between two characters.
+/// Returns the outcome of a rule that fails on the text of a file, with its furthest failure at the byte
+/// `place`. Returns `None` if that is not between two characters.
 fn failure_outcome(
     alloc: Global,
-    rules: &CompiledRules<'_>,
+    rules: &CompiledGrammar<'_>,
     rule: &str,
     name: &str,
     text: &str,
@@ -221,7 +221,7 @@ fn failure_outcome(
 /// Returns the outcome of a run without an answer. Returns none for bytes that are no compiled grammar.
 fn refusal_outcome(
     alloc: Global,
-    rules: &CompiledRules<'_>,
+    rules: &CompiledGrammar<'_>,
     rule: &str,
     stop: BlockStop,
     limits: Limits,
@@ -238,8 +238,8 @@ fn refusal_outcome(
     }
 }
 
-/// Returns the outcome of a rule that matches a text, up to a byte position between two characters, where
-/// these names are expected at the furthest failure. The walk is that over the trees of the match.
+/// Returns the outcome of a rule that matches a text up to a byte between two characters. `names` are
+/// expected at the furthest failure. The walk is that over the trees of the match.
 fn shown_outcome(
     alloc: Global,
     text: &str,
@@ -262,9 +262,9 @@ fn shown_outcome(
     }
 }
 
-/// Returns the outcome of a rule that matches a text, up to a byte position between two characters, where
-/// what is expected at the furthest failure was not found in so many steps. The walk is that over the trees
-/// of the match.
+/// Returns the outcome of a rule that matches a text up to a byte between two characters, if the names that
+/// are expected at the furthest failure were not found within the limit of steps. The walk is that over the
+/// trees of the match.
 fn unnamed_match(
     alloc: Global,
     text: &str,
@@ -290,8 +290,8 @@ fn unnamed_match(
     }
 }
 
-/// Returns the note on a match that ends before its text, where the trees are shown as text: the other
-/// formats have the end. The only error is an allocation failure.
+/// Returns the note on a match that ends before its text, if the trees are shown as text. The other formats
+/// have the end. The only error is an allocation failure.
 fn note_of(
     alloc: Global,
     text: &str,
@@ -389,8 +389,8 @@ fn failed_outcome(alloc: Global, name: &str, text: &str, failure: &NamedAttempts
     }
 }
 
-/// Returns the outcome of a rule that fails on the text of a file at a byte position, where the expected set
-/// was not found in so many steps.
+/// Returns the outcome of a rule that fails on the text of a file at the byte `place`, if the expected set
+/// was not found in `steps` steps.
 fn unnamed_outcome(alloc: Global, name: &str, text: &str, place: usize, steps: u64) -> Outcome
     requires { IsCharBoundary text.now place }
     ensures { IsUnnamedReport name.now text.now place steps result }
@@ -404,7 +404,7 @@ fn unnamed_outcome(alloc: Global, name: &str, text: &str, place: usize, steps: u
     }
 }
 
-/// Returns the outcome of a name that no rule has, by the names of the rules.
+/// Returns the outcome for the name `rule`, which no rule has. `names` has the names of the rules.
 fn no_rule_outcome(alloc: Global, names: &[&str], rule: &str) -> Outcome
     ensures { (g : Grammar) → AreNamesOf g names.now → IsNoRuleReport g rule.now result }
 {
@@ -477,7 +477,7 @@ fn describe_stop(alloc: Global, steps: u64, user: Option<&str>) -> Result<String
     }
 }
 
-/// Returns the outcome of rules that can't be run.
+/// Returns the outcome of rules that cannot be run.
 fn unfit_outcome(unfit: Unfit) -> Outcome
     ensures { result ≡ unfit_outcome unfit }
 {

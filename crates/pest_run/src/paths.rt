@@ -30,9 +30,11 @@ const LAST_CALLS: usize = 12;
 
 const SHOWN_CALLS: usize = 16;
 
-/// Returns the paths to a byte position of a text, by the names of the rules in order: all in a line of JSON,
-/// or the first 20 in lines of text. The only error is an allocation failure, as which a call counts that
-/// begins within a character.
+/// Returns the paths to a byte of a text, with the names of the rules: all paths in a line of JSON, or the
+/// first 20 in lines of text.
+///
+/// # Errors
+/// `AllocError` if an allocation fails, or if a call begins inside a character.
 pub fn show_paths(
     alloc: Global,
     format: Format,
@@ -116,7 +118,7 @@ fn show_head(alloc: Global, text: &str, place: usize) -> Result<String, AllocErr
     Ok(head)
 }
 
-/// Writes how many paths are left out, of so many.
+/// Writes how many of `count` paths are left out.
 fn write_more(lines: &mut String, count: usize) -> Result<(), AllocError>
     ensures { OnOk result (string_bytes lines.new ≡ string_bytes lines.old ++ spec.more_text count) }
 {
@@ -180,8 +182,8 @@ fn is_within(before: Option<&[OpenCall]>, calls: &[OpenCall]) -> bool
     }
 }
 
-/// Writes the rule of a number, which is expected within calls: on a line of its own with the calls, but
-/// after a comma where the calls are those of the path before.
+/// Writes the expected rule of a path. If the calls are those of the path before, the rule is written after a
+/// comma. If not, it is written on a line of its own, with the calls.
 fn write_path(
     alloc: Global,
     lines: &mut String,
@@ -250,7 +252,7 @@ fn write_calls(
     Ok(())
 }
 
-/// Writes a call, and where it begins.
+/// Writes a call and its start.
 fn write_call(
     alloc: Global,
     lines: &mut String,

@@ -17,7 +17,7 @@ use std::alloc::Global;
 use std::io::Write;
 
 /// Matches a text by the requested rule of a grammar, both read from files, and prints the trees to `out`, as
-/// `run` does. A file that can't be read or is not UTF-8 is reported on `err` with its name and the reason
+/// `run` does. A file that cannot be read or is not UTF-8 is reported on `err` with its name and the reason
 /// (3). `reading` is what was read of the grammar.
 pub fn run_files<'g, W: Write, E: Write>(
     alloc: Global,
@@ -75,15 +75,21 @@ pub fn run_files<'g, W: Write, E: Write>(
     run(alloc, rules, text.name, input, request, reading, out, err)
 }
 
-/// Matches the text of a file of that name by the requested rule of a grammar, and prints the trees to `out`
-/// (0). As text, a note on `err` says where the match ends, if more than a line's end of the text is left,
-/// and what is expected at the furthest failure, if that is no earlier.
+/// Matches the text of a file by the requested rule of a grammar, and prints the trees to `out`. Then the
+/// exit status is 0. If the format is text, and more than a line break of the text is left, a note on `err`
+/// has the end of the match. It also has the names that are expected at the furthest failure, if that is not
+/// before the end.
 ///
-/// Otherwise one text with a line break at its end goes to `err`: the report of a grammar that is refused,
-/// that the grammar has no such rule, or the furthest position at which the rule fails with the expected set
-/// there, or with a note that this was not found (1); `out of memory` (2); `cannot write` where `out` refuses
-/// a write (4); why the run was stopped (5). A write that `err` refuses changes no status. `reading` is what
-/// was read of the grammar; nothing where an allocation failed.
+/// If there are no trees, one text with a line break at its end is written to `err`:
+/// - the report of a refused grammar, or that the grammar has no such rule (status 1);
+/// - the furthest position at which the rule fails, with the expected set there, or with a note that it was
+///   not found (1);
+/// - `out of memory`, if an allocation fails (2);
+/// - `cannot write`, if `out` refuses a write (4);
+/// - the reason why the run was stopped (5).
+///
+/// If `err` refuses a write, the status stays the same. `reading` is what was read of the grammar. It is
+/// nothing if an allocation failed.
 pub fn run<'g, W: Write, E: Write>(
     alloc: Global,
     grammar: &'g str,

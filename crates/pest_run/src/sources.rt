@@ -9,7 +9,7 @@ use program_support::status::Status;
 use std::alloc::Global;
 use std::io::Write;
 
-/// A file: its name, its bytes, and the reason if they can't be read.
+/// A file: its name, its bytes, and the reason if they cannot be read.
 #[derive(Drop)]
 pub struct Source<'a> {
     pub name: &'a str,
@@ -28,7 +28,7 @@ pub fn text_of<'s>(source: &'s Source<'_>) -> Option<&'s str>
     }
 }
 
-/// Returns why a file can't be read.
+/// Returns why a file cannot be read.
 fn why_unread<'s>(source: &'s Source<'_>) -> &'s str
     ensures { result.now ≡ why_unread source.entry.now }
 {
@@ -38,7 +38,7 @@ fn why_unread<'s>(source: &'s Source<'_>) -> &'s str
     }
 }
 
-/// Reports a file that can't be read.
+/// Reports a file that cannot be read.
 pub fn unreadable<E: Write>(alloc: Global, source: &Source<'_>, err: &mut Output<E>) -> RunExit
     ensures status { result.status ≡ 3 }
     ensures tells { WritesUnread source.entry.now result.write_result

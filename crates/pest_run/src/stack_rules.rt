@@ -1,11 +1,15 @@
 //! Rules of a compiled grammar that use the stack, found by depth-first search in its code.
-ghost use Rattle.std.specs.Prelude.{◌≡◌};
-ghost use Rattle.matcher_code.specs.StackUses.{uses_stack};
+ghost use Rattle.std.specs.Prelude.{◌≡◌, IfOk, None, drop, true};
+ghost use Rattle.format_code.specs.Codes.{lists_at};
+ghost use Rattle.matcher_code.specs.Bytecodes.{lists_in};
+ghost use Rattle.matcher_code.specs.StackUses.{is_stackless, uses_stack};
+ghost use Rattle.matcher_engine.specs.Blocks.{part_of};
 
 use format_code::code::read_code;
 use format_code::sections::section;
 use matcher_code::bytecode::{Bytecode, find_op};
 use matcher_code::code::Op;
+use matcher_code::stack_uses::is_stackless;
 use matcher_program::texts::same;
 use std::alloc::{AllocError, Global};
 
@@ -15,7 +19,10 @@ const TABLE: usize = 257;
 /// The length of the head of a block, in bytes. The sections follow it.
 const HEAD: usize = 16;
 
-/// The section with the code that finds names: each call of a rule with a tree stands there.
+/// The section with the code for matches.
+const MATCH_CODE: u32 = 0;
+
+/// The section with the code that finds names. It has each call of a rule that gives a tree.
 const NAME_CODE: u32 = 1;
 
 /// The label of the call of the first rule from outside. The labels of the other rules follow.
@@ -131,14 +138,20 @@ impl Search {
     }
 }
 
-/// Returns the name of a rule that uses the stack, if the rule of a name comes to one: of a silent rule,
-/// that of the rule that calls it. The only error is an allocation failure.
+/// Returns the name of a rule that uses the stack, if the rule named `rule` comes to one: of a silent rule,
+/// that of the rule that calls it. If no operation for matches uses the stack, there is none. The only error
+/// is an allocation failure.
 pub fn find_stack_rule<'b>(
     alloc: Global,
     block: &[u8],
     names: &[&'b str],
     rule: &str,
-) -> Result<Option<&'b str>, AllocError> {
+) -> Result<Option<&'b str>, AllocError>
+    ensures { IfOk result (λ user. is_stackless (lists_at (part_of block.now 0)) ≡ true → user ≡ None) }
+{
+    if is_stackless(&code_in(block, MATCH_CODE)) {
+        return Ok(None);
+    }
     let Some(number) = last_number(names, rule) else {
         return Ok(None);
     };
@@ -148,7 +161,24 @@ pub fn find_stack_rule<'b>(
     }
 }
 
-/// Returns the number of the last rule of a name, if a `u32` holds it.
+/// Returns the code in the section with the number `number` of a block.
+fn code_in(block: &[u8], number: u32) -> Bytecode<'_>
+    ensures { lists_in result ≡ lists_at (part_of block.entry.now number) }
+{
+    read_code(section(bytes_from(block, HEAD), number))
+}
+
+/// Returns the bytes from the byte `place` on, or none if there are fewer.
+fn bytes_from(block: &[u8], place: usize) -> &[u8]
+    ensures { result.now ≡ drop place block.entry.now }
+{
+    match block.get(place..) {
+        Some(bytes) => bytes,
+        None => &[],
+    }
+}
+
+/// Returns the index of the last rule named `rule`, if a `u32` holds it.
 fn last_number(names: &[&str], rule: &str) -> Option<u32> {
     let mut found = None;
     for (number, name) in names.iter().enumerate() {
@@ -161,8 +191,7 @@ fn last_number(names: &[&str], rule: &str) -> Option<u32> {
 
 /// Returns the number of a rule that uses the stack, if the rule of a number comes to one.
 fn search_code(alloc: Global, block: &[u8], rule: u32) -> Result<Option<u32>, AllocError> {
-    let sections = block.get(HEAD..).unwrap_or(&[]);
-    let code = read_code(section(sections, NAME_CODE));
+    let code = code_in(block, NAME_CODE);
     let mut search = Search {
         is_reached: vec![in alloc; false; code.ops.len()]?,
         waiting: Vec::new(alloc),

@@ -45,7 +45,7 @@ pub fn option<'a>(alloc: Global, name: &'a str, help: &'a str) -> Arg<'a>
     positional(alloc, name, help).long(name)
 }
 
-/// Returns an argument that its place tells, under a name.
+/// Returns a positional argument named `name`.
 pub fn positional<'a>(alloc: Global, name: &'a str, help: &'a str) -> Arg<'a>
     ensures { HasForm (positional name.now) result }
 {

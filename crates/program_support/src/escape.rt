@@ -16,7 +16,7 @@ pub fn escape(alloc: Global, text: &str) -> Result<String, AllocError>
     Ok(escaped)
 }
 
-/// Returns a text with each hidden character as an escape, but for tabs and line feeds.
+/// Returns `text` with each hidden character as an escape, except for tabs and line feeds.
 pub fn escape_lines(alloc: Global, text: &str) -> Result<String, AllocError>
     ensures { IfOk result (λ escaped. string_bytes escaped ≡ escaped_lines text.now) }
 {

@@ -1,4 +1,4 @@
-//! Excerpts: the part of a line that is shown round a place of it, with a mark below.
+//! Excerpts: the part of a line that is shown around a position, with a mark below it.
 ghost use Rattle.std.specs.Prelude.{◌≡◌, ◌+◌, ◌*◌, ◌≤◌, ◌++◌, IfOk, OnOk, chars, length, nat_lt, string_bytes, take};
 ghost use Rattle.std.specs.Char.Escape.{escape_unicode};
 ghost use Rattle.std.specs.List.{flat_map, repeat};
@@ -19,7 +19,7 @@ const BEFORE: usize = 60;
 /// The most columns from the place on.
 const AFTER: usize = 100;
 
-/// The bytes of a line that are shown, and whether the line goes on before and after them.
+/// The bytes of a line that are shown, and whether the line has more bytes before and after them.
 #[derive(Clone, Copy, Debug, PartialEq, Eq)]
 pub struct Window {
     pub start: usize,
@@ -37,8 +37,9 @@ struct Fit {
     is_whole: bool,
 }
 
-/// Returns the part that is shown of the line of a text that begins at a byte, round another byte: all of a
-/// line of up to 160 columns. The time does not depend on the length of the line.
+/// Returns the part that is shown of a line: the one that begins at the byte `line_start` of `text`, around
+/// the byte `place`. A line of up to 160 columns is shown as a whole. The time does not depend on the length
+/// of the line.
 pub fn window_at(text: &str, line_start: usize, place: usize) -> Window
     ensures before { result.start ≤ place }
     ensures after { place ≤ result.end }
@@ -57,7 +58,7 @@ pub fn window_at(text: &str, line_start: usize, place: usize) -> Window
     }
 }
 
-/// Returns how much of a text's first line fits so many columns.
+/// Returns how much of the first line of `text` fits `most` columns.
 fn fit_beginning(text: &str, most: usize) -> Fit
     ensures { result.bytes ≤ 4 * most }
 {
@@ -75,7 +76,7 @@ fn fit_beginning(text: &str, most: usize) -> Fit
     fit
 }
 
-/// Returns how much of the end of a text in one line fits so many columns.
+/// Returns how much of the end of `text`, which is one line, fits `most` columns.
 fn fit_end(text: &str, most: usize) -> Fit
     ensures { result.bytes ≤ 4 * most }
 {
@@ -115,7 +116,7 @@ impl Fit {
         }
     }
 
-    /// This much of a text that goes on.
+    /// The same part of a text that has more bytes.
     fn cut(self) -> Fit
         ensures { result.bytes ≡ self.bytes }
     {
@@ -136,7 +137,7 @@ struct CutLine<'l> {
 }
 
 /// Returns three lines on an error: an empty one, what is shown of its line, and a mark below that. Hidden
-/// characters are escapes, and `…` stands for each part of the line that is not shown.
+/// characters are escapes, and `…` is in the place of each part of the line that is not shown.
 pub fn show_line(alloc: Global, error: &Error<Rule>) -> Result<String, AllocError>
     ensures { IfOk result (λ lines. IsExcerpt error.now (string_bytes lines)) }
 {
@@ -150,8 +151,8 @@ pub fn show_line(alloc: Global, error: &Error<Rule>) -> Result<String, AllocErro
     lines_of(alloc, number, shown_text, mark_text)
 }
 
-/// Cuts a line on both sides of the place before which `count` characters stand: all of a line of up to 160
-/// columns is shown.
+/// Cuts a line on both sides of the position after the first `count` characters. A line of up to 160 columns
+/// is shown as a whole.
 fn cut_line(line: &str, count: usize) -> CutLine<'_>
     ensures line { line.entry.now ≡ result.hidden_before.now
         ++ (result.before.now ++ (result.after.now ++ result.hidden_after.now)) }
@@ -223,7 +224,7 @@ pub(crate) fn start_of(place: &LineColLocation) -> (usize, usize)
     }
 }
 
-/// Returns as many blanks as a number has digits.
+/// Returns a blank for each digit of `number`.
 pub fn margin_of(alloc: Global, number: usize) -> Result<String, AllocError>
     ensures { IfOk result (λ blanks. string_bytes blanks ≡ margin number) }
 {
@@ -320,7 +321,7 @@ fn marked_count(start: (usize, usize), end: (usize, usize), line: &str) -> usize
     }
 }
 
-/// Appends what stands below a text: a tab below a tab, and a blank for each other column.
+/// Appends what is printed below a text: a tab below a tab, and a blank for each other column.
 fn push_blanks(alloc: Global, text: &str, out: &mut String) -> Result<(), AllocError>
     ensures { OnOk result (string_bytes out.new
         ≡ string_bytes out.old ++ flat_map blanks_below (chars text.now)) }
@@ -331,7 +332,7 @@ fn push_blanks(alloc: Global, text: &str, out: &mut String) -> Result<(), AllocE
     Ok(())
 }
 
-/// Appends what stands below a character.
+/// Appends what is printed below a character.
 fn push_blanks_below(alloc: Global, character: char, out: &mut String) -> Result<(), AllocError>
     ensures { OnOk result (string_bytes out.new ≡ string_bytes out.old ++ blanks_below character) }
 {
@@ -382,7 +383,7 @@ fn width_of(text: &str) -> usize
     width
 }
 
-/// Returns the columns that a character takes on a terminal: as many as its escape if it is hidden, and one
+/// Returns the number of columns of a character on a terminal: that of its escape if it is hidden, and one
 /// for a tab.
 fn shown_width(character: char) -> usize
     ensures { result ≡ shown_width character }
@@ -408,7 +409,7 @@ fn escape_width(character: char) -> usize
     }
 }
 
-/// Returns the bytes `start..end` of a text, or nothing where these are not characters.
+/// Returns the bytes `start..end` of `text`, or the empty text if these are not whole characters.
 pub fn part(text: &str, start: usize, end: usize) -> &str
     ensures { IsPartOf text.entry.now result.now }
 {

@@ -6,7 +6,7 @@ use std::alloc::{AllocError, Global};
 use std::fs;
 use std::io::{self, ErrorKind};
 
-/// A folder that can't be read.
+/// A folder that cannot be read.
 #[derive(Drop)]
 pub struct UnreadFolder {
     pub name: String,
@@ -18,7 +18,7 @@ pub struct UnreadFolder {
 pub struct Folder {
     /// The names of its grammars, which end with `.pest`, in order.
     pub grammars: Vec<String>,
-    /// The folders that can't be read.
+    /// The folders that cannot be read.
     pub unread: Vec<UnreadFolder>,
 }
 
@@ -33,7 +33,7 @@ pub fn is_folder(rt: &HostRuntime, name: &str) -> bool {
     }
 }
 
-/// Finds the grammars of the folder of a name, and of those below it. The only error is an allocation
+/// Finds the grammars of the folder named `name`, and of those below it. The only error is an allocation
 /// failure. No clause can say what a folder has.
 pub fn read_folder(rt: &HostRuntime, name: &str) -> Result<Folder, AllocError>
     ensures { IfOk result (λ folder. All IsGrammarName folder.grammars.items) }
@@ -55,7 +55,7 @@ pub fn read_folder(rt: &HostRuntime, name: &str) -> Result<Folder, AllocError>
     Ok(Folder { grammars, unread })
 }
 
-/// Returns a folder that can't be read, for an error.
+/// Returns a folder that cannot be read, for an error.
 fn unread_folder(
     alloc: Global,
     name: String,
@@ -68,8 +68,8 @@ fn unread_folder(
     Ok(UnreadFolder { name, why })
 }
 
-/// Adds the folders in a folder, and its grammars. The error is that of the last entry that can't be read, or
-/// an allocation failure.
+/// Adds the folders in a folder, and its grammars. The error is that of the last entry that cannot be read,
+/// or an allocation failure.
 fn list_folder(
     rt: &HostRuntime,
     folder: &str,

@@ -5,8 +5,8 @@ use std::alloc::Global;
 use std::fs::File;
 use std::io::{self, Read};
 
-/// Reads all bytes of the file of a name, or of standard input for `-`. The errors are those of the system,
-/// and an allocation failure. No clause can say what a file has.
+/// Reads all bytes of the file named `name`, or of standard input for `-`. The errors are those of the
+/// system, and an allocation failure. No clause can say what a file has.
 pub fn read_input(rt: &HostRuntime, name: &str) -> io::Result<Vec<u8>> {
     if name == "-" {
         read_all(rt.alloc(), &mut rt.stdin())

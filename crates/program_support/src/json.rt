@@ -5,8 +5,8 @@ ghost use Rattle.program_support.specs.Escapes.{escaped_json, four_digits, hex_d
 use crate::escape::is_hidden;
 use std::alloc::{AllocError, Global};
 
-/// Returns a JSON text without blanks with each hidden character as an escape, as `\u202e`. Such characters
-/// stand in strings alone, where the escape means the same. The only error is an allocation failure.
+/// Returns a JSON text without blanks, with each hidden character as an escape, such as `\u202e`. Such
+/// characters are in strings only, where the escape means the same. The only error is an allocation failure.
 pub fn escape_json(alloc: Global, json: &str) -> Result<String, AllocError>
     ensures { IfOk result (λ escaped. string_bytes escaped ≡ escaped_json json.now) }
 {

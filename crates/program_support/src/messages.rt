@@ -1,4 +1,4 @@
-//! Messages of the programs, and where an error of a grammar is.
+//! Messages of the programs, and the position of an error of a grammar.
 ghost use Rattle.std.specs.Prelude.{◌≡◌, ◌++◌, IfOk, codes, string_bytes};
 ghost use Rattle.std.specs.Option.{option_copied};
 ghost use Rattle.base_language.specs.Pieces.PrintedError.{error_text, message_of};
@@ -11,7 +11,7 @@ use base_language::grammar::Rule;
 use base_language::runtime::{Error, ErrorVariant};
 use std::alloc::{AllocError, Global};
 
-/// Returns the message that a file can't be read, and why.
+/// Returns the message that a file cannot be read, and why.
 pub fn cannot_read(alloc: Global, name: &str, why: &str) -> Result<String, AllocError>
     ensures { IfOk result (λ message. string_bytes message ≡ codes "cannot read "
         ++ (escaped_bytes name.now ++ (codes ": " ++ (why.now ++ codes "\n")))) }
@@ -20,7 +20,7 @@ pub fn cannot_read(alloc: Global, name: &str, why: &str) -> Result<String, Alloc
     format!(in alloc; "cannot read {name}: {why}\n")
 }
 
-/// Returns the message that a file can't be written, and why.
+/// Returns the message that a file cannot be written, and why.
 pub fn cannot_write(alloc: Global, name: &str, why: &str) -> Result<String, AllocError>
     ensures { IfOk result (λ message. string_bytes message ≡ codes "cannot write "
         ++ (escaped_bytes name.now ++ (codes ": " ++ (why.now ++ codes "\n")))) }
@@ -29,7 +29,7 @@ pub fn cannot_write(alloc: Global, name: &str, why: &str) -> Result<String, Allo
     format!(in alloc; "cannot write {name}: {why}\n")
 }
 
-/// Returns the message that a file can't be read, since it is not UTF-8.
+/// Returns the message that a file cannot be read, since it is not UTF-8.
 pub fn is_not_utf8(alloc: Global, name: &str) -> Result<String, AllocError>
     ensures { IfOk result (λ message. string_bytes message
         ≡ codes "cannot read " ++ escaped_bytes name.now ++ codes ": it is not UTF-8\n") }
@@ -38,7 +38,7 @@ pub fn is_not_utf8(alloc: Global, name: &str) -> Result<String, AllocError>
     format!(in alloc; "cannot read {name}: it is not UTF-8\n")
 }
 
-/// Returns the place of an error in the file of a name, and its line.
+/// Returns the position of an error in the file named `name`, and its line.
 pub fn place_error(alloc: Global, name: &str, error: &Error<Rule>) -> Result<String, AllocError>
     ensures { IfOk result (λ placed. IsPlaced name.now (error_text error.now) (string_bytes placed)) }
 {

@@ -3,12 +3,12 @@ use std::fs::{self, File, Files, OpenFile, OpenOptions};
 use std::io::{self, ErrorKind, Write};
 use std::os::unix::fs::OpenOptionsExt;
 
-/// The number of names beside the file that are tried, where runs that were killed left files.
+/// The number of names beside the file that are tried, if runs that were killed have left files.
 const NAMES: usize = 16;
 
 /// Makes `bytes` the contents of the file of this name, which has to exist. Any process that opens it finds
 /// its old contents or all of `bytes`. After an error the file is unchanged, and the new file is removed; but
-/// if its folder alone can't be synced, the file is replaced. The permissions stay. A link is followed: the
+/// if its folder alone cannot be synced, the file is replaced. The permissions stay. A link is followed: the
 /// file that it leads to is replaced. No clause can say what a file has, before or after.
 pub fn replace<R: Files + Alloc>(rt: &R, name: &str, bytes: &[u8]) -> io::Result<()> {
     let target = fs::canonicalize(rt, name)?;

@@ -11,9 +11,9 @@ pub enum Status {
     Found,
     /// An allocation failed.
     OutOfMemory,
-    /// An input or the command line can't be read.
+    /// An input or the command line cannot be read.
     Unreadable,
-    /// A file or standard output can't be written.
+    /// A file or standard output cannot be written.
     Unwritable,
     /// The work was stopped before it had an answer.
     Stopped,

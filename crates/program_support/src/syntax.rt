@@ -4,9 +4,9 @@ ghost use Rattle.program_support.specs.Messages.{TellsSyntax, expected_text, une
 
 use std::alloc::{AllocError, Global};
 
-/// Returns the sentence of a syntax error at a byte of a text, where these names are expected: what is
-/// expected, and what is found. At most six names are told, with `or` before the last; `or something else`
-/// where there are more. The only error is an allocation failure.
+/// Returns the sentence of a syntax error at a byte of a text: the names that are expected there, and what is
+/// found. At most six names are written, with `or` before the last one. If there are more, `or something
+/// else` is written. The only error is an allocation failure.
 pub fn syntax_message(
     alloc: Global,
     text: &str,
@@ -49,7 +49,7 @@ fn found_at(alloc: Global, text: &str, position: usize) -> Result<String, AllocE
     }
 }
 
-/// Joins at most six names, with `or` before the last; `or something else` where there are more.
+/// Joins at most six names, with `or` before the last one. If there are more, `or something else` is added.
 fn join_names(alloc: Global, names: &[&str]) -> Result<String, AllocError> {
     let mut text = String::new(alloc);
     let count = names.len();

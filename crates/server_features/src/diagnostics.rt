@@ -42,8 +42,8 @@ pub fn publish(
     Ok(body)
 }
 
-/// Returns the notification of the diagnostics of a document's text, and where that is refused, of the
-/// warnings of an earlier text that stay in it.
+/// Returns the notification of the diagnostics of a document's text. If the text is refused, the notification
+/// also has the warnings of an earlier text that stay in it.
 fn publish_diagnosis(
     alloc: Global,
     client: Client,
@@ -266,7 +266,7 @@ fn has_help(code: Code) -> bool
     }
 }
 
-/// Adds a line with a help, where there is one and it is to be shown.
+/// Adds a line with a help, if there is one and it is to be shown.
 fn push_help(is_shown: bool, help: &Option<Help>, message: &mut String) -> Result<(), AllocError>
     ensures { OnOk result (string_bytes message.new
         ≡ string_bytes message.old ++ spec.help_line is_shown help.now) }

@@ -31,8 +31,8 @@ pub(crate) struct Moves<'t> {
     pub moves: Vec<Move>,
 }
 
-/// Returns the warnings of an earlier text that stay in a later one with these definitions, at their places
-/// there. A warning stays where the later text has the definition that it is in, byte for byte.
+/// Returns the warnings of an earlier text that stay in a later one with these definitions, at their
+/// positions there. A warning stays if the later text has the definition that it is in, byte for byte.
 pub(crate) fn staying_warnings(
     alloc: Global,
     earlier: &Diagnosis,
@@ -81,7 +81,7 @@ fn moves_between<'t>(
     })
 }
 
-/// Returns where the definitions of a text are, by their bytes.
+/// Returns the positions of the definitions of a text, by their bytes.
 fn places_of<'t>(
     alloc: Global,
     text: &'t str,
@@ -136,8 +136,8 @@ fn push_staying(
     Ok(())
 }
 
-/// Returns where the bytes from `start` up to `end` of the earlier text are in the later one, if they are in
-/// a definition that it has.
+/// Returns the extent in the later text of the bytes from `start` up to `end` of the earlier one, if they are
+/// in a definition that the later text has.
 fn move_extent(moves: &Moves<'_>, start: usize, end: usize) -> Option<Extent>
     requires { AreMoves moves.now }
     ensures { IfSome result (λ extent. IsMoved moves.now.earlier.now moves.now.text.now start end
@@ -147,7 +147,7 @@ fn move_extent(moves: &Moves<'_>, start: usize, end: usize) -> Option<Extent>
     shift(*moves.moves.get(number)?, start, end)
 }
 
-/// Returns where the bytes from `start` up to `end` are in a definition that is moved, if they are in it.
+/// Returns the extent of the bytes from `start` up to `end` after a definition was moved, if they are in it.
 fn shift(place: Move, start: usize, end: usize) -> Option<Extent>
     ensures { IfSome result (spec.IsShifted place start end) }
 {

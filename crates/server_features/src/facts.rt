@@ -19,12 +19,12 @@ pub struct RuleFacts {
     /// Whether it may match without taking a character.
     pub is_nullable: bool,
     /// The beginnings of its matches.
-    pub first: FirstSet,
+    pub first: FirstLabels,
 }
 
 /// The beginnings of a rule's matches.
 #[derive(Drop)]
-pub struct FirstSet {
+pub struct FirstLabels {
     /// The first characters of literals, ranges and builtins, as they are printed, each once, at most 20.
     pub labels: Vec<String>,
     /// Whether there are more.
@@ -77,7 +77,7 @@ impl RuleTable {
         })
     }
 
-    /// Returns the facts of the rule of a name; none where there is no such rule.
+    /// Returns the facts of the rule named `name`, or `None` if there is no such rule.
     pub fn facts_of(&self, alloc: Global, name: &str) -> Result<Option<RuleFacts>, AllocError>
         ensures { IfOk result (AreFactsBy self.now name.now) }
     {
@@ -91,7 +91,7 @@ impl RuleTable {
         }))
     }
 
-    /// Returns the number of the body of the rule of a name.
+    /// Returns the index of the body of the rule named `name`.
     fn root_of(&self, name: &str) -> Option<usize>
         ensures { result ≡ root_of self.now name.now }
     {
@@ -107,11 +107,11 @@ impl RuleTable {
     }
 
     /// Returns what can begin a node, by a depth-first search of the starts.
-    fn first_set(&self, alloc: Global, root: usize) -> Result<FirstSet, AllocError> {
+    fn first_set(&self, alloc: Global, root: usize) -> Result<FirstLabels, AllocError> {
         let count = self.starts.len();
         let mut is_visited = vec![in alloc; false; count]?;
         let mut stack = vec![in alloc; root]?;
-        let mut first = FirstSet::new(alloc);
+        let mut first = FirstLabels::new(alloc);
         for _ in 0..count.saturating_mul(2) {
             let Some(number) = stack.pop() else {
                 break;
@@ -134,7 +134,7 @@ impl RuleTable {
         alloc: Global,
         number: usize,
         stack: &mut Vec<usize>,
-        first: &mut FirstSet,
+        first: &mut FirstLabels,
     ) -> Result<(), AllocError> {
         match self.starts.get(number) {
             None | Some(Start::Nothing) => Ok(()),
@@ -152,10 +152,10 @@ impl RuleTable {
     }
 }
 
-impl FirstSet {
+impl FirstLabels {
     /// Returns an empty set.
-    fn new(alloc: Global) -> FirstSet {
-        FirstSet {
+    fn new(alloc: Global) -> FirstLabels {
+        FirstLabels {
             labels: Vec::new(alloc),
             has_more: false,
         }

@@ -14,7 +14,7 @@ use server_requests::locations::edit_at;
 use server_symbols::{Definition, Edit, Extent, edits_between};
 use std::alloc::{AllocError, Global};
 
-/// Returns the edits that format a document; none where it cannot be formatted.
+/// Returns the edits that format a document, or none if it cannot be formatted.
 pub fn format_document(alloc: Global, context: &Context<'_>) -> Result<Answer, AllocError>
     ensures { IfOk result (AreFormatting context.now) }
 {
@@ -80,7 +80,7 @@ fn join(extent: Extent, other: Extent) -> Extent
     }
 }
 
-/// Returns the edits that format a document, those within an extent.
+/// Returns the edits that format a document, those inside an extent.
 fn format_extent(alloc: Global, context: &Context<'_>, extent: Extent) -> Result<Answer, AllocError>
     ensures { IfOk result (Formats (HasEditsWithin extent) context.now) }
 {
@@ -113,7 +113,7 @@ fn all_edits(alloc: Global, context: &Context<'_>, formatted: &str) -> Result<An
     Ok(Answer::Result(value))
 }
 
-/// Returns the edits within an extent that make a document another text.
+/// Returns the edits inside an extent that make a document another text.
 fn edits_within(
     alloc: Global,
     context: &Context<'_>,
@@ -128,7 +128,7 @@ fn edits_within(
     Ok(Answer::Result(value))
 }
 
-/// Returns the edits that are within an extent.
+/// Returns the edits that are inside an extent.
 fn edits_in(alloc: Global, extent: Extent, edits: &[Edit]) -> Result<Vec<Edit>, AllocError>
     ensures { IfOk result (λ within. within.items ≡ filter (spec.is_within extent) edits.now) }
 {
@@ -139,7 +139,7 @@ fn edits_in(alloc: Global, extent: Extent, edits: &[Edit]) -> Result<Vec<Edit>, 
         .collect(alloc)
 }
 
-/// Whether an edit is within an extent.
+/// Whether an edit is inside an extent.
 fn is_within(extent: Extent, edit: Edit) -> bool
     ensures { result ≡ spec.is_within extent edit }
 {

@@ -3,7 +3,7 @@ ghost use Rattle.std.specs.Prelude.{IfOk};
 ghost use Rattle.server_requests.specs.Answers.{IsResult};
 
 use crate::diagnoses::Diagnoses;
-use crate::facts::{FirstSet, RuleFacts};
+use crate::facts::{FirstLabels, RuleFacts};
 use crate::notes::{GrammarNotes, KeptNotes};
 use front_names::is_builtin;
 use serde_json::{Value, json};
@@ -16,8 +16,8 @@ use server_requests::symbols::modifier_name;
 use server_symbols::{Definition, Extent, TokenClass};
 use std::alloc::{AllocError, Global};
 
-/// Returns what is known of the name at a position. The optimized form of a rule is shown where the diagnosis
-/// that is kept of the text has no error. The notes of the text are made where they are not kept.
+/// Returns what is known about the name at a position. The optimized form of a rule is shown if the diagnosis
+/// of the text that is kept has no error. The notes of the text are made if they are not kept.
 pub fn hover(
     alloc: Global,
     context: &Context<'_>,
@@ -207,7 +207,11 @@ fn push_facts(has_markdown: bool, facts: &RuleFacts, text: &mut String) -> Resul
 }
 
 /// Adds what can begin a rule.
-fn push_first(has_markdown: bool, first: &FirstSet, text: &mut String) -> Result<(), AllocError> {
+fn push_first(
+    has_markdown: bool,
+    first: &FirstLabels,
+    text: &mut String,
+) -> Result<(), AllocError> {
     let mut separator = "\n\nIt begins with ";
     for label in &first.labels {
         text.push_str(separator)?;

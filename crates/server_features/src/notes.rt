@@ -15,13 +15,13 @@ use pest_meta::optimize_with_spans;
 use pest_meta::parser::PestParser;
 use std::alloc::{AllocError, Global};
 
-/// The rules of a text, as hovers tell of them.
+/// The rules of a text, as hovers show them.
 #[derive(Drop)]
 pub struct GrammarNotes {
     pub text: String,
-    /// None where the text is no grammar.
+    /// None if the text is no grammar.
     pub table: Option<RuleTable>,
-    /// The optimized rules, where the text is accepted.
+    /// The optimized rules, if the text is accepted.
     optimized: Deep<Vec<OptimizedRule>>,
     pub ghost stated: { ∥ IsStated (string_bytes text) table ∥₁ },
 }
@@ -29,7 +29,7 @@ pub struct GrammarNotes {
 impl GrammarNotes {
     ghost use Rattle.server_features.specs.Facts.{AreFacts};
 
-    /// Returns the notes of a text. `is_accepted` tells whether that is accepted.
+    /// Returns the notes of a text. `is_accepted` says whether the text is accepted.
     pub fn new(alloc: Global, text: &str, is_accepted: bool) -> Result<GrammarNotes, AllocError>
         ensures { IfOk result (λ notes. string_bytes notes.text ≡ text.now) }
     {
@@ -75,7 +75,7 @@ impl GrammarNotes {
         })
     }
 
-    /// Returns the facts of the rule of a name; none where the text is no grammar, or has no such rule.
+    /// Returns the facts of the rule named `name`, or `None` if the text is no grammar, or has no such rule.
     pub fn facts_of(&self, alloc: Global, name: &str) -> Result<Option<RuleFacts>, AllocError>
         ensures { IfOk result (λ facts.
             ∥ AreFacts (string_bytes self.now.text) name.now facts ∥₁) }
@@ -86,7 +86,7 @@ impl GrammarNotes {
         }
     }
 
-    /// Returns the body of the rule of a name in the optimized rules, where the text is accepted.
+    /// Returns the body of the rule named `name` in the optimized rules, if the text is accepted.
     pub fn optimized_body(&self, alloc: Global, name: &str) -> Result<Option<String>, AllocError> {
         match self
             .optimized

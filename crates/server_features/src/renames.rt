@@ -26,7 +26,7 @@ pub fn rename_rule(
     names::rename_rule(alloc, context, &stated, params)
 }
 
-/// Returns where a text states the names of its starts.
+/// Returns the extents in which a text states the names of its starts.
 fn stated_names(alloc: Global, text: &str) -> Result<Vec<Extent>, AllocError>
     ensures { IfOk result (λ names. names.items ≡ spec.stated_names text.now) }
 {

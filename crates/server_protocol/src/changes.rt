@@ -6,7 +6,7 @@ ghost use Rattle.server_protocol.specs.TextChanges.{AreChanged, IsChanged};
 use crate::positions::{Encoding, Range, offset_of};
 use std::alloc::{AllocError, Global};
 
-/// A change of a text: a range that is replaced, or none where all of the text is, and the new text.
+/// A change of a text: a range that is replaced, or none if all of the text is, and the new text.
 #[derive(Clone, Copy)]
 pub struct Change<'c> {
     pub range: Option<Range>,

@@ -53,7 +53,7 @@ pub fn client_of(params: &Value) -> Client {
     }
 }
 
-/// Returns the encoding of positions: UTF-8 where the client offers it.
+/// Returns the encoding of positions: UTF-8 if the client offers it.
 fn encoding_of(params: &Value) -> Encoding {
     if lists_at(params, "/capabilities/general/positionEncodings", "utf-8") {
         Encoding::Utf8

@@ -6,7 +6,7 @@ pub fn one_offset()
     ensures { OneOffset }
 {}
 
-/// The position of an offset names that offset, where any position does.
+/// The position of an offset names that offset, if any position does.
 pub fn exact()
     ensures { Exact }
 {}

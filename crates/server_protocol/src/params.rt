@@ -127,7 +127,7 @@ pub fn version_of(params: &Value) -> Option<i64>
     version.as_i64()
 }
 
-/// Returns the changes in parameters, or none where one of them is no change.
+/// Returns the changes in parameters, or none if one of them is no change.
 pub fn changes_in<'v>(
     alloc: Global,
     params: &'v Value,
@@ -141,7 +141,7 @@ pub fn changes_in<'v>(
     }
 }
 
-/// Returns the changes in a list, or none where one of them is no change.
+/// Returns the changes in a list, or none if one of them is no change.
 fn changes_of<'v>(alloc: Global, values: &'v [Value]) -> Result<Option<Vec<Change<'v>>>, AllocError>
     ensures { IfOk result (λ found. MatchOption found (changes.HasNoChange (map view values.now))
         (λ list. AllZip changes.IsChangeIn (map view values.now) list.items)) }
@@ -168,7 +168,7 @@ fn change_of(value: &Value) -> Option<Change<'_>>
     Some(Change { range, text })
 }
 
-/// Returns the range of a change, if it has one. Fails where that is no range.
+/// Returns the range of a change, if it has one. Fails if that is no range.
 fn changed_range(value: &Value) -> Option<Option<Range>>
     ensures { result ≡ changes.changed_range (view value.now) }
 {

@@ -43,8 +43,7 @@ impl Position {
     }
 }
 
-/// Returns how many code units the character has that begins with a byte; none for a byte within a
-/// character.
+/// Returns how many code units the character has that begins with a byte; none for a byte inside a character.
 fn units(encoding: Encoding, byte: u8) -> usize
     ensures { result ≡ spec.units encoding byte }
 {
@@ -110,9 +109,9 @@ fn is_place(text: &str, offset: usize) -> bool
     bytes[offset] != b'\n' || bytes[offset - 1] != b'\r'
 }
 
-/// Returns the offset in bytes that a position names: that of the last place of the text whose position is
-/// at most this one. So a character past the end of its line is the end of that line, before its line end;
-/// a line past the last one is the end of the text; and a position within a character is the start of that
+/// Returns the offset in bytes that a position names: that of the last place of the text whose position is at
+/// most this one. So a character past the end of its line is the end of that line, before its line end; a
+/// line past the last one is the end of the text; and a position inside a character is the start of that
 /// character.
 pub fn offset_of(text: &str, encoding: Encoding, position: Position) -> usize
     ensures { IsOffset encoding text.now position result }

@@ -44,8 +44,8 @@ static FORMS: [CallForm; 3] = [
     },
 ];
 
-/// Returns what can be written at a position: the document's rules, builtins, and forms with arguments;
-/// nothing where no name can be written, as in a comment or a literal.
+/// Returns what can be written at a position: the document's rules, builtins, and forms with arguments, or
+/// nothing if no name can be written, as in a comment or a literal.
 pub fn completions(
     alloc: Global,
     context: &Context<'_>,
@@ -59,7 +59,8 @@ pub fn completions(
     Ok(Answer::Result(completions_at(alloc, context, offset)?))
 }
 
-/// Returns what can be written at an offset, as a value. A name can be where a letter would be one of a name.
+/// Returns what can be written at an offset, as a value. A name can be written if a letter there would be
+/// part of a name.
 fn completions_at(alloc: Global, context: &Context<'_>, offset: usize) -> Result<Value, AllocError>
     requires { IsCharBoundary context.now.text.now offset }
     ensures { IfOk result (λ v. AreCompletionsAt context.now offset (view v)) }
@@ -73,7 +74,7 @@ fn completions_at(alloc: Global, context: &Context<'_>, offset: usize) -> Result
     }
 }
 
-/// Returns what can be written where a name can be, as a value.
+/// Returns what can be written at a position of a name, as a value.
 fn all_completions(alloc: Global, context: &Context<'_>) -> Result<Value, AllocError> {
     let mut items = Vec::new(alloc);
     for definition in context.definitions {

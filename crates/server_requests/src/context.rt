@@ -129,7 +129,7 @@ impl<'d> Context<'d> {
         }
     }
 
-    /// Returns the text of an extent, or nothing where it does not have whole characters.
+    /// Returns the text of an extent, or nothing if it does not have whole characters.
     pub fn part(&self, extent: Extent) -> &'d str
         ensures { result.now ≡ shown self.now.text.now extent }
     {
@@ -137,7 +137,7 @@ impl<'d> Context<'d> {
     }
 }
 
-/// Returns the text of an extent, or nothing where it does not have whole characters.
+/// Returns the text of an extent, or nothing if it does not have whole characters.
 pub fn part_of(text: &str, extent: Extent) -> &str
     ensures { result.now ≡ parts.shown text.now extent }
 {

@@ -22,7 +22,7 @@ use server_symbols::{
 use std::alloc::{AllocError, Global};
 use std::collections::HashSet;
 
-/// Returns where the rule at a position is defined.
+/// Returns the locations of the definitions of the rule at a position.
 pub fn definition(
     alloc: Global,
     context: &Context<'_>,
@@ -36,7 +36,7 @@ pub fn definition(
     }
 }
 
-/// Returns where the rules of a name are defined.
+/// Returns the locations of the definitions of the rules named `name`.
 fn definitions_value(alloc: Global, context: &Context<'_>, name: &str) -> Result<Value, AllocError>
     ensures { IfOk result (λ v. view v ≡ places.locations_at context.now
         (names_of context.now.text.now name.now context.now.definitions.now)) }
@@ -45,7 +45,8 @@ fn definitions_value(alloc: Global, context: &Context<'_>, name: &str) -> Result
     locations_at(alloc, context, &extents)
 }
 
-/// Returns where the rule at a position is called, and defined where the parameters ask for that.
+/// Returns the locations at which the rule at a position is called. If the parameters ask for it, the
+/// definitions are among them.
 pub fn references(
     alloc: Global,
     context: &Context<'_>,
@@ -63,7 +64,8 @@ pub fn references(
     }
 }
 
-/// Returns where the rules of a name are called, and defined where that is asked for.
+/// Returns the locations at which the rules named `name` are called. If it is asked for, the definitions are
+/// among them.
 fn references_value(
     alloc: Global,
     context: &Context<'_>,
@@ -128,7 +130,7 @@ fn is_outside(starts: &HashSet<usize>, extent: Extent) -> bool
     !starts.contains(&extent.start)
 }
 
-/// Returns where the name at a position occurs.
+/// Returns the occurrences of the name at a position.
 pub fn highlights(
     alloc: Global,
     context: &Context<'_>,
@@ -142,7 +144,8 @@ pub fn highlights(
     }
 }
 
-/// Returns where a name occurs, as highlights: writes of definitions' names, and reads of others.
+/// Returns the occurrences of a name as highlights: the names of definitions are writes, and all others are
+/// reads.
 fn highlights_value(alloc: Global, context: &Context<'_>, name: &str) -> Result<Value, AllocError> {
     let extents = occurrences_of(alloc, context.text, context.tokens, name)?;
     let starts = starts_of(alloc, context.definitions)?;
@@ -193,8 +196,8 @@ fn name_value(alloc: Global, context: &Context<'_>, name: Name<'_>) -> Result<Va
     json!(in alloc; { "range": range, "placeholder": name.text })
 }
 
-/// Returns the edits that rename the rule at a position, also where it is among the names that comments at
-/// the head of the document state.
+/// Returns the edits that rename the rule at a position. The position may also be in a name that a comment at
+/// the head of the document states.
 pub fn rename_rule(
     alloc: Global,
     context: &Context<'_>,

@@ -89,7 +89,7 @@ fn selection_value(
     Ok(value)
 }
 
-/// Returns a part, with the next larger one where there is one.
+/// Returns a part, with the next larger one if there is one.
 fn part_value(
     alloc: Global,
     context: &Context<'_>,

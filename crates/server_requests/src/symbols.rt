@@ -11,7 +11,7 @@ use server_protocol::messages::Answer;
 use server_symbols::Definition;
 use std::alloc::{AllocError, Global};
 
-/// The protocol's number of a function, as which rules are shown.
+/// The protocol's number of a function. Rules are shown as functions.
 const FUNCTION: u64 = 12;
 
 /// Returns the rules of a document.

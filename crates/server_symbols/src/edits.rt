@@ -13,9 +13,8 @@ pub struct Edit {
     pub new: Extent,
 }
 
-/// Returns edits, in order and apart from one another, that make one text another one. Where both have the
-/// same tokens but for their white space, only the white space that differs is replaced; else all of the
-/// text.
+/// Returns edits, in order and apart from one another, that change `text` to `other`. If both have the same
+/// tokens except for white space, only the white space that differs is replaced. If not, the whole text is.
 pub fn edits_between(alloc: Global, text: &str, other: &str) -> Result<Vec<Edit>, AllocError>
     ensures { IfOk result (λ edits. Edits text.now other.now edits.items) }
 {

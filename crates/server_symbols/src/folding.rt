@@ -41,7 +41,7 @@ fn push_bodies(definitions: &[Definition], folds: &mut Vec<Fold>) -> Result<(), 
     Ok(())
 }
 
-/// Adds a body, where there is one.
+/// Adds a body, if there is one.
 fn push_body(body: Option<Extent>, folds: &mut Vec<Fold>) -> Result<(), AllocError>
     ensures { OnOk result (folds.new.items ≡ folds.old.items ++ spec.body_fold body) }
 {

@@ -6,7 +6,7 @@ use crate::outline::is_named;
 use crate::tokens::{Extent, Token, TokenClass};
 use std::alloc::{AllocError, Global};
 
-/// Returns where a name occurs, as the name of a rule that is defined or called, in order.
+/// Returns the extents of a name, as the name of a rule that is defined or called, in order.
 pub fn occurrences_of(
     alloc: Global,
     text: &str,

@@ -15,9 +15,9 @@ pub struct Definition {
     pub name: Extent,
     /// The definition, from its doc comment or its name to its closing brace, or up to the next definition.
     pub whole: Extent,
-    /// Its body with the braces, where it has one.
+    /// Its body with the braces, if it has one.
     pub body: Option<Extent>,
-    /// The byte of its modifier, where it has one.
+    /// The byte of its modifier, if it has one.
     pub modifier: Option<u8>,
     /// Whether its closing brace is reached.
     is_closed: bool,
@@ -144,7 +144,7 @@ fn push_token(
     extend_last(definitions, text, token, depth)
 }
 
-/// Returns where the doc comments begin that end before the next token.
+/// Returns the byte at which the doc comments begin that end before the next token.
 fn doc_after(token: Token, doc: Option<usize>) -> Option<usize> {
     match token.class {
         TokenClass::Doc => Some(doc.unwrap_or(token.start)),
@@ -153,7 +153,7 @@ fn doc_after(token: Token, doc: Option<usize>) -> Option<usize> {
     }
 }
 
-/// Adds a token to the last definition, where there is one. Returns how many braces are open after it.
+/// Adds a token to the last definition, if there is one. Returns how many braces are open after it.
 fn extend_last(
     definitions: &mut Vec<Definition>,
     text: &str,

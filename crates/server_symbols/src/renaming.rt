@@ -28,7 +28,8 @@ pub enum Renaming {
 
 /// Renames a rule. The edits are where comments at the head of the text mention it, and where its name is an
 /// identifier of the grammar, in definitions and in calls. They are given out only where the new name is a
-/// free one, and the edited text is a grammar with the same tokens, but for the new name and documentation.
+/// free one, and the edited text is a grammar with the same tokens, except for the new name and
+/// documentation.
 pub fn rename(
     alloc: Global,
     text: &str,
@@ -122,7 +123,7 @@ fn rename_in(
     }
 }
 
-/// Returns the starts and ends of a grammar's tokens, or none where a text is no grammar.
+/// Returns the starts and ends of a grammar's tokens, or none if a text is no grammar.
 fn entries_of(alloc: Global, text: &str) -> Result<Option<Vec<Entry>>, AllocError>
     ensures { IfOk result (λ found. MatchOption found (spec.IsNoGrammar text.now)
         (λ entries. AreTokensOf grammar_rules text.now entries.items)) }
@@ -170,7 +171,7 @@ fn is_place(text: &[u8], rule: Rule, start: usize, end: usize, name: &[u8]) -> b
     is_identifier_rule(rule) && part(text, start, end) == name
 }
 
-/// Returns where a name is an identifier of a grammar with these tokens.
+/// Returns the extents in which a name is an identifier of a grammar with these tokens.
 fn places_of(
     alloc: Global,
     text: &[u8],
@@ -241,7 +242,7 @@ fn is_definition_of(text: &[u8], name: &[u8], before: Entry, last: Entry, entry:
     }
 }
 
-/// Whether an edited text is a grammar with the tokens of a text, but for a new name and documentation.
+/// Whether an edited text is a grammar with the tokens of a text, except for a new name and documentation.
 fn is_renaming(
     alloc: Global,
     text: &[u8],
@@ -259,7 +260,7 @@ fn is_renaming(
     }
 }
 
-/// Whether an edited text is a grammar with the tokens of a text, but for a new name and documentation.
+/// Whether an edited text is a grammar with the tokens of a text, except for a new name and documentation.
 fn is_edited(
     alloc: Global,
     text: &[u8],
@@ -284,7 +285,7 @@ fn is_edited(
     ))
 }
 
-/// Whether a text has the tokens of another one, with a new name in place of one, but for documentation.
+/// Whether a text has the tokens of another one, with a new name in place of one, except for documentation.
 fn is_renamed(
     text: &[u8],
     entries: &[Entry],
@@ -319,7 +320,7 @@ fn is_renamed(
     other_rest.is_empty()
 }
 
-/// Whether two entries are the same, but for their positions.
+/// Whether two entries are the same, except for their positions.
 fn is_same_entry(entry: Entry, other: Entry) -> bool
     ensures { result ≡ true → spec.unplaced other ≡ spec.unplaced entry }
 {

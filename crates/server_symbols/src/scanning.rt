@@ -81,7 +81,7 @@ fn is_line_end(byte: u8) -> bool
     byte == b'\n' || byte == b'\r'
 }
 
-/// Returns the byte after the quote that closes a string, or the end of the line where there is none. A
+/// Returns the byte after the quote that closes a string, or the end of the line if there is none. A
 /// backslash escapes the byte after it.
 pub(crate) fn string_end(text: &[u8], start: usize) -> usize
     requires { start ≤ length text.now }
@@ -128,8 +128,8 @@ pub(crate) fn byte_at(text: &[u8], index: usize) -> u8
     }
 }
 
-/// Returns the byte after the quote that closes a character, or none where there is none in its line. A
-/// quote closes no character that is that quote itself, or escaped.
+/// Returns the byte after the quote that closes a character, or none if there is none in its line. A quote
+/// closes no character that is that quote itself, or escaped.
 pub(crate) fn character_end(text: &[u8], start: usize) -> Option<usize>
     requires { start ≤ length text.now }
     ensures further { ForSome result (λ end. start < end) }
@@ -157,7 +157,7 @@ fn least_len(text: &[u8], start: usize) -> usize
     if byte_at(text, start) == b'\\' { 2 } else { 1 }
 }
 
-/// Whether a byte closes a character that lacks so many bytes.
+/// Whether a byte closes a character that lacks `least` bytes.
 fn is_last_quote(byte: u8, least: usize) -> bool
     ensures { result ≡ (byte == 39 && least == 0) }
 {
@@ -184,7 +184,7 @@ pub(crate) fn block_comment_end(text: &[u8], start: usize) -> usize
     text.len()
 }
 
-/// Whether two neighbouring bytes close a block comment in which so many others are open.
+/// Whether two neighbouring bytes close a block comment in which `inner` others are open.
 fn is_outer_end(inner: usize, last: u8, byte: u8) -> bool
     ensures { result ≡ (spec.is_block_end last byte && inner == 0) }
 {
@@ -220,7 +220,7 @@ fn inner_after(inner: usize, last: u8, byte: u8) -> usize
     }
 }
 
-/// Returns the second of two neighbouring bytes, or a blank where they close or open a comment.
+/// Returns the second of two neighbouring bytes, or a blank if they close or open a comment.
 fn last_after(last: u8, byte: u8) -> u8
     ensures { result ≡ spec.last_after last byte }
 {

@@ -27,11 +27,11 @@ pub enum TokenClass {
     /// `#` and a name.
     Tag,
     Number,
-    /// A string in double quotes, up to the end of its line where none closes it.
+    /// A string in double quotes, up to the end of its line if none closes it.
     Text,
     /// What is between single quotes in a line.
     Character,
-    /// `// ..`, or `/* .. */` with those in it, up to the end of the text where none closes it.
+    /// `// ..`, or `/* .. */` with those in it, up to the end of the text if none closes it.
     Comment,
     /// `/// ..`
     Doc,

@@ -4,11 +4,11 @@ ghost use Rattle.test_calling.specs.NamedPlaces.{AreNamedPlaces, named_place, na
 ghost use Rattle.front_spanned.specs.Nodes.{rule_views};
 ghost use Rattle.pest_meta.specs.Spelling.{IsAnswer};
 
-use matcher_engine::matcher::Matcher;
+use matcher_engine::block::{BlockStop, compile_block};
 use matcher_program::compile::Unfit;
-use matcher_support::parse::{ParseError, parse as parse_text};
-use matcher_support::tags::pairs::as_node_tag;
-use matcher_support::tags::parse::parse_tagged;
+use matcher_support::compiled::CompiledGrammar;
+use matcher_support::shown::tree_text;
+use matcher_support::tags::entries::{TaggedEntry, tag_entries};
 use matcher_support::unicode_properties::UnicodeProperties;
 use pest_meta::optimizer::OptimizedRule;
 use pest_meta::parser::{ParserRule, Rule, consume_rules_with_spans, parse};
@@ -52,43 +52,58 @@ fn places(
     Ok(places)
 }
 
-/// Prints the pairs that a text spells for a rule, or why it spells none.
-pub fn print_pairs(
+/// Prints the trees that a text spells for a rule, each below the one that holds it, or why there are none.
+pub fn print_trees(
     rt: &HostRuntime,
     rules: &[OptimizedRule],
     rule: &str,
     text: &str,
 ) -> io::Result<()> {
-    let matcher = match Matcher::new(rt.alloc(), rules, &UnicodeProperties) {
-        Ok(matcher) => matcher,
+    let alloc = rt.alloc();
+    let block = match compile_block(alloc, rules, &UnicodeProperties) {
+        Ok(block) => block,
         Err(Unfit::Memory) => return eprintln!(rt; "out of memory"),
         Err(_) => return eprintln!(rt; "these rules cannot be run"),
     };
-    match parse_text(rt.alloc(), &matcher, rule, text, 1_000_000) {
-        Ok(found) => {
-            for pair in found.pairs {
-                println!(rt; "{}: {:?}", pair.as_rule(), pair.as_str())?;
-            }
-            Ok(())
-        }
-        Err(ParseError::NoMatch(error)) => eprintln!(rt; "{error}"),
-        Err(ParseError::UnknownRule(name)) => eprintln!(rt; "no rule {name}"),
-        Err(ParseError::Stopped(_)) => eprintln!(rt; "stopped"),
+    let Ok(Some(compiled)) = CompiledGrammar::read(alloc, &block) else {
+        return eprintln!(rt; "out of memory");
+    };
+    match compiled.match_text(alloc, rule, text, None) {
+        Ok(found) => match tree_text(alloc, text, compiled.walk(alloc, &found)) {
+            Ok(lines) => print!(rt; "{lines}"),
+            Err(_) => eprintln!(rt; "out of memory"),
+        },
+        Err(BlockStop::NoMatch(place)) => eprintln!(rt;
+            "no match: it gets no further than byte {place}"
+        ),
+        Err(BlockStop::NoRule) => eprintln!(rt; "no rule {rule}"),
+        Err(_) => eprintln!(rt; "stopped"),
     }
 }
 
-/// Prints the tags in the pair that a text spells for a rule, each with its part of the text. The matcher is
-/// one of wrapped rules.
-pub fn print_tags(rt: &HostRuntime, matcher: &Matcher, rule: &str, text: &str) -> io::Result<()> {
-    let Ok(mut found) = parse_tagged(rt.alloc(), matcher, rule, text, 1_000_000) else {
+/// Prints the tags of a match by wrapped rules, each with its part of the text.
+pub fn print_tags(
+    rt: &HostRuntime,
+    wrapped: &CompiledGrammar<'_>,
+    rule: &str,
+    text: &str,
+) -> io::Result<()> {
+    let alloc = rt.alloc();
+    let Ok(found) = wrapped.match_text(alloc, rule, text, None) else {
         return eprintln!(rt; "no match");
     };
-    let Some(pair) = found.pairs.next() else {
-        return Ok(());
+    let Ok(entries) = tag_entries(alloc, wrapped.walk(alloc, &found)) else {
+        return eprintln!(rt; "out of memory");
     };
-    for inner in pair.into_inner() {
-        if let Some(tag) = as_node_tag(&inner) {
-            println!(rt; "{tag}: {:?}", inner.as_str())?;
+    let mut start = 0;
+    for entry in &entries {
+        match entry {
+            TaggedEntry::Start { pos, .. } => start = *pos,
+            TaggedEntry::End { pos, tag } => {
+                if let (Some(tag), Some(part)) = (tag, text.get(start..*pos)) {
+                    println!(rt; "{tag}: {part:?}")?;
+                }
+            }
         }
     }
     Ok(())

@@ -1,6 +1,7 @@
 //! Prints the tags of texts with a key and a value.
 use crate::callers::print_tags;
-use matcher_engine::matcher::Matcher;
+use matcher_engine::block::compile_block;
+use matcher_support::compiled::CompiledGrammar;
 use matcher_support::tags::wrapped::wrap_rules;
 use matcher_support::unicode_properties::UnicodeProperties;
 use pest_meta::optimizer::release;
@@ -24,13 +25,16 @@ fn print_tags_of(rt: &HostRuntime, grammar: &str, rule: &str, text: &str) -> io:
     let Ok(wrapped) = wrapped else {
         return eprintln!(rt; "out of memory");
     };
-    match Matcher::new(alloc, &wrapped.value, &UnicodeProperties) {
-        Ok(matcher) => print_tags(rt, &matcher, rule, text),
-        Err(_) => eprintln!(rt; "these rules cannot be run"),
+    let Ok(block) = compile_block(alloc, &wrapped.value, &UnicodeProperties) else {
+        return eprintln!(rt; "these rules cannot be run");
+    };
+    match CompiledGrammar::read(alloc, &block) {
+        Ok(Some(compiled)) => print_tags(rt, &compiled, rule, text),
+        _ => eprintln!(rt; "out of memory"),
     }
 }
 
-/// Prints the tags of a text without and of one with a sign. A tag is on the last pair of its expression.
+/// Prints the tags of a text without and of one with a sign.
 pub fn print_examples(rt: &HostRuntime) -> io::Result<()> {
     print_tags_of(rt, PAIRS, "pair", "width=80")?;
     print_tags_of(rt, PAIRS, "pair", "left=-7")

@@ -1,7 +1,8 @@
 //! Prints the trees of matches in preorder, and why there are none.
 use crate::tags::PAIRS;
-use base_language::runtime::Position;
-use matcher_engine::matcher::Matcher;
+use matcher_engine::block::compile_block;
+use matcher_engine::walk::text_name;
+use matcher_support::compiled::CompiledGrammar;
 use matcher_support::unicode_properties::UnicodeProperties;
 use pest_meta::optimizer::release;
 use pest_meta::parse_and_optimize;
@@ -11,8 +12,8 @@ use std::io;
 /// How many rules stand before the pairs in a large grammar.
 const OTHER_RULES: usize = 4096;
 
-/// A grammar of rules that refuse the characters of many ranges. `nested` ends soon on a long text, since calls
-/// are remembered.
+/// A grammar of rules that refuse the characters of many ranges. `nested` ends soon on a long text, since
+/// calls are remembered.
 const MANY_RANGES: &str = "sign = @{ !XID_START ~ ANY }
 signs = @{ (!LETTER ~ ANY)* }
 word = { (!LETTER ~ ANY)* ~ \"x\" }
@@ -23,18 +24,18 @@ inner = { \"x\" ~ inner ~ \"y\" | \"x\" ~ inner ~ \"z\" | \"x\" }";
 /// or why there is no match in so many steps at most.
 fn print_trees(
     rt: &HostRuntime,
-    matcher: &Matcher,
+    block: &[u8],
     rule: &str,
     text: &str,
     steps: u64,
 ) -> io::Result<()> {
-    let Some(start) = Position::new(text, 0) else {
-        return eprintln!(rt; "no start of the text");
+    let Ok(Some(compiled)) = CompiledGrammar::read(rt.alloc(), block) else {
+        return eprintln!(rt; "out of memory");
     };
-    match matcher.parse_preorder(rt.alloc(), rule, start, steps) {
+    match compiled.match_text(rt.alloc(), rule, text, Some(steps)) {
         Ok(found) => {
             for tree in &found.trees {
-                let name = matcher.rule_name(tree.row).unwrap_or("?");
+                let name = text_name(compiled.rule_names(), tree.row);
                 println!(rt; "{name}: {} to {}, {}", tree.start, tree.end, tree.after)?;
             }
             println!(rt; "end: {}, furthest failure: {}", found.end, found.furthest)
@@ -43,12 +44,12 @@ fn print_trees(
     }
 }
 
-/// Returns a matcher of a grammar's optimized rules.
-fn matcher_of(alloc: Global, grammar: &str) -> Option<Matcher> {
+/// Returns the block of a grammar's optimized rules.
+fn block_of(alloc: Global, grammar: &str) -> Option<Vec<u8>> {
     let (_builtins, rules) = parse_and_optimize(alloc, grammar).ok()?;
-    let matcher = Matcher::new(alloc, &rules, &UnicodeProperties);
+    let block = compile_block(alloc, &rules, &UnicodeProperties);
     release(rules);
-    matcher.ok()
+    block.ok()
 }
 
 /// Returns the grammar of pairs behind many other rules. The only error is an allocation failure.
@@ -64,35 +65,35 @@ fn with_other_rules(alloc: Global) -> Result<String, AllocError> {
 
 /// Prints trees of a grammar of pairs, and a refusal for each reason.
 fn print_pairs(rt: &HostRuntime, grammar: &str) -> io::Result<()> {
-    let Some(matcher) = matcher_of(rt.alloc(), grammar) else {
-        return eprintln!(rt; "the grammar of pairs gives no matcher");
+    let Some(block) = block_of(rt.alloc(), grammar) else {
+        return eprintln!(rt; "the grammar of pairs gives no block");
     };
-    print_trees(rt, &matcher, "pair", "left=-7", 1_000_000)?;
-    print_trees(rt, &matcher, "pair", "left=?", 1_000_000)?;
-    print_trees(rt, &matcher, "pair", "left=-7", 1)?;
-    print_trees(rt, &matcher, "list", "left=-7", 1_000_000)
+    print_trees(rt, &block, "pair", "left=-7", 1_000_000)?;
+    print_trees(rt, &block, "pair", "left=?", 1_000_000)?;
+    print_trees(rt, &block, "pair", "left=-7", 1)?;
+    print_trees(rt, &block, "list", "left=-7", 1_000_000)
 }
 
 /// Prints what a rule answers that takes a text from the empty stack.
 fn print_empty_stack(rt: &HostRuntime) -> io::Result<()> {
-    match matcher_of(rt.alloc(), "taken = { POP }") {
-        Some(matcher) => print_trees(rt, &matcher, "taken", "x", 1_000_000),
-        None => eprintln!(rt; "the grammar of the stack gives no matcher"),
+    match block_of(rt.alloc(), "taken = { POP }") {
+        Some(block) => print_trees(rt, &block, "taken", "x", 1_000_000),
+        None => eprintln!(rt; "the grammar of the stack gives no block"),
     }
 }
 
 /// Prints trees and refusals of rules that refuse the characters of many ranges.
 fn print_many_ranges(rt: &HostRuntime) -> io::Result<()> {
-    let Some(matcher) = matcher_of(rt.alloc(), MANY_RANGES) else {
-        return eprintln!(rt; "the grammar of many ranges gives no matcher");
+    let Some(block) = block_of(rt.alloc(), MANY_RANGES) else {
+        return eprintln!(rt; "the grammar of many ranges gives no block");
     };
-    print_trees(rt, &matcher, "sign", "1", 1_000_000)?;
-    print_trees(rt, &matcher, "sign", "x", 1_000_000)?;
-    print_trees(rt, &matcher, "signs", "1+漢", 1_000_000)?;
-    print_trees(rt, &matcher, "word", "1+x", 1_000_000)?;
+    print_trees(rt, &block, "sign", "1", 1_000_000)?;
+    print_trees(rt, &block, "sign", "x", 1_000_000)?;
+    print_trees(rt, &block, "signs", "1+漢", 1_000_000)?;
+    print_trees(rt, &block, "word", "1+x", 1_000_000)?;
     print_trees(
         rt,
-        &matcher,
+        &block,
         "nested",
         "xxxxxxxxxxxxxxxxxxxxxxxxxxxxxx",
         1_000_000,

@@ -1,62 +1,74 @@
 //! The matcher, and its trees as text.
-ghost use Rattle.std.specs.Prelude.{IfErr, IfOk, chars, string_bytes, ◌≡◌};
-ghost use Rattle.matcher_program.specs.Programs.{Fits};
+ghost use Rattle.std.specs.Prelude.{Err, IfErr, IfOk, Some, length, string_bytes, ◌≡◌, ◌≢◌};
 ghost use Rattle.matcher_support.specs.Shown.{shown};
 ghost use Rattle.base_ast.specs.Optimized.{optimized_rules_of};
-ghost use Rattle.base_language.specs.Language.State.{Classes, State};
+ghost use Rattle.base_language.specs.Language.Expression.{Grammar, last_place};
+ghost use Rattle.base_language.specs.Language.State.{Classes, Outcome, State};
 ghost use Rattle.base_language.specs.Language.Text.{Text};
-ghost use Rattle.matcher_program.specs.Answers.{IsRefused, start_of};
-ghost use Rattle.matcher_engine.specs.Matchers.{grammar_in, properties_in};
-ghost use Rattle.matcher_engine.specs.Preorders.{HasPreorder, IsPreorder};
-ghost use Rattle.matcher_engine.specs.Reasons.{HasReason, StopsFor};
+ghost use Rattle.base_language.specs.Pieces.Span.{position_text};
+ghost use Rattle.matcher_program.specs.Answers.{HasAt, state_at};
+ghost use Rattle.matcher_program.specs.Refusals.{IsReason};
+ghost use Rattle.matcher_engine.specs.BlockRuns.{IsOutcome};
+ghost use Rattle.matcher_engine.specs.Blocks.{HasRules, IsBlockOf, IsWhole, operations_in};
+ghost use Rattle.matcher_engine.specs.Limits.{IsAmple, steps_of, turns_of};
+ghost use Rattle.matcher_engine.specs.Preorders.{HasPreorder};
+ghost use Rattle.matcher_engine.specs.Walks.{AreNamesOf};
 
 use base_ast::optimized::OptimizedRule;
-use matcher_engine::matcher::{Matcher, Preorder};
-use matcher_program::answers::Refusal;
+use base_language::runtime::Position;
+use matcher_engine::block::BlockStop;
+use matcher_engine::matcher::Preorder;
+use matcher_engine::walk::walk_names;
+use matcher_program::answers::Stop;
 use matcher_program::compile::Unfit;
 use matcher_program::properties::Properties;
 use std::alloc::{AllocError, Global};
 
-/// Returns a matcher for rules.
-pub fn matcher_of<P: Properties>(
+/// Compiles rules to a block.
+pub fn compile_block<P: Properties>(
     alloc: Global,
     rules: &[OptimizedRule],
     properties: &P,
-) -> Result<Matcher, Unfit>
-    ensures means { IfOk result (λ matcher. grammar_in matcher ≡ optimized_rules_of rules.now) }
-    ensures fits { IfOk result (λ matcher. Fits (properties_in matcher) P.classes) }
+) -> Result<Vec<u8>, Unfit>
+    ensures compiled { IfOk result (λ block.
+        IsBlockOf (optimized_rules_of rules.now) P.classes block.items) }
+    ensures whole { IfOk result (λ block. IsWhole block.items) }
+    ensures rules { IfOk result (λ block. HasRules block.items rules.now) }
+    ensures refused { IfErr result (IsReason P.knows (optimized_rules_of rules.now)) }
 {
-    Matcher::new(alloc, rules, properties)
+    matcher_engine::block::compile_block(alloc, rules, properties)
 }
 
-/// Matches a text by a rule, with at most so many steps.
-pub fn match_text<'a>(
-    matcher: &'a Matcher,
+/// Runs the rule with the number `rule` from `start` on, with a limit on steps or without one.
+pub fn run_block(
     alloc: Global,
-    rule: &'a str,
-    text: &'a str,
-    steps: u64,
-) -> Result<Preorder, Refusal<'a>>
-    ensures matched { IfOk result (IsPreorder (grammar_in matcher.entry.now)
-        (properties_in matcher.entry.now) (chars rule.entry.now) text.entry.now) }
-    ensures refused { IfErr result (IsRefused (grammar_in matcher.entry.now)
-        (properties_in matcher.entry.now) (chars rule.entry.now) text.entry.now steps) }
-    ensures reason { IfErr result (StopsFor (HasReason (grammar_in matcher.entry.now)
-        (properties_in matcher.entry.now) (chars rule.entry.now) (start_of text.entry.now) steps)) }
+    block: &[u8],
+    rule: u32,
+    start: Position<'_>,
+    limit: Option<u64>,
+) -> Result<Preorder, BlockStop>
+    ensures outcome { (g : Grammar) (classes : Classes) → IsBlockOf g classes block.now
+        → (n : Text) → last_place g n ≡ Some rule
+        → IsOutcome g n (state_at start.entry) classes (steps_of limit) result }
+    ensures answered { (g : Grammar) (classes : Classes) → IsBlockOf g classes block.now
+        → (n : Text) → last_place g n ≡ Some rule
+        → IsAmple g (operations_in block.now) (length (position_text start.entry)) (turns_of limit)
+        → (o : Outcome) → HasAt g n (state_at start.entry) classes o
+        → result ≢ Err (BlockStop.Stopped Stop.OutOfSteps) }
 {
-    matcher.match_text(alloc, rule, text, steps)
+    matcher_engine::block::run_block(alloc, block, rule, start, limit)
 }
 
-/// Returns the trees of a match as lines.
+/// Returns the trees of a match as lines, by the names of the rules in order.
 pub fn tree_text(
     alloc: Global,
-    matcher: &Matcher,
+    names: &[&str],
     text: &str,
     found: &Preorder,
 ) -> Result<String, AllocError>
-    ensures { IfOk result (λ lines. (n : Text) (s : State) (classes : Classes)
-        → (x : HasPreorder (grammar_in matcher.now) n s classes found.now)
+    ensures { IfOk result (λ lines. (g : Grammar) → AreNamesOf g names.now
+        → (n : Text) (s : State) (classes : Classes) → (x : HasPreorder g n s classes found.now)
         → string_bytes lines ≡ shown text.now 0 x.trees) }
 {
-    matcher_support::shown::tree_text(alloc, text, matcher.walk(alloc, found))
+    matcher_support::shown::tree_text(alloc, text, walk_names(alloc, names, found))
 }

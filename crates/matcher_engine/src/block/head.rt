@@ -84,8 +84,10 @@ pub(crate) fn find_flaw(block: &[u8]) -> Option<BlockFlaw>
     }
 }
 
-/// Checks that bytes are a block of this version, as it was made: that the sum in its head is that of its
-/// sections. A run does not look at the sum.
+/// Verifies the version and the checksum of a compiled grammar. Runs do not verify the checksum.
+///
+/// # Errors
+/// The first variant of `BlockFlaw` that applies.
 pub fn check_block(block: &[u8]) -> Result<(), BlockFlaw>
     ensures whole { OnOk result (IsWhole block.now) }
     ensures flaw { IfErr result (λ flaw. HasFlaw block.now flaw) }

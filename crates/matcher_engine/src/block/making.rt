@@ -83,9 +83,10 @@ fn block_of(
     Ok(block)
 }
 
-/// Compiles rules to a block. Errors: a name in a body that is neither a rule's nor a builtin's, or a
-/// property's that `properties` does not know; a bound of a range that is not one character; an allocation
-/// failure, as which a block of 2^32 bytes counts.
+/// Compiles `rules` to a block.
+///
+/// # Errors
+/// Those of `Matcher::new`. `Unfit::Memory` is also returned if the block would have 2^32 bytes or more.
 pub fn compile_block<P: Properties>(
     alloc: Global,
     rules: &[OptimizedRule],

@@ -13,8 +13,8 @@ use matcher_engine::walk::{TreeWalk, Visit};
 use std::alloc::{AllocError, Global};
 
 /// The start of a tree, or its end with its tag; positions are in bytes.
-#[derive(Clone, Copy)]
-pub(crate) enum TaggedEntry<'a> {
+#[derive(Clone, Copy, Debug)]
+pub enum TaggedEntry<'a> {
     Start { rule: &'a str, pos: usize },
     End { pos: usize, tag: Option<&'a str> },
 }
@@ -78,10 +78,10 @@ fn add_visit<'a>(
     }
 }
 
-/// Returns the entries of all trees that are not a wrapper's. A wrapper gives its tag to the entry before its
-/// end, if that is the end of a tree; a later wrapper's tag replaces it. The only error is an allocation
-/// failure.
-pub(crate) fn tag_entries<'a>(
+/// Returns the entries of all trees of a match by wrapped rules that are not a wrapper's, in the order of the
+/// text. A wrapper gives its tag to the entry before its end, if that is the end of a tree; a later wrapper's
+/// tag replaces it. The only error is an allocation failure.
+pub fn tag_entries<'a>(
     alloc: Global,
     mut walk: TreeWalk<'a, '_>,
 ) -> Result<Vec<TaggedEntry<'a>>, AllocError>

@@ -1,5 +1,5 @@
-//! Rules whose tags have become calls of wrappers, rules that give one tree more, which ends where the tagged
-//! expression ends.
+//! Rules whose tags have become calls of wrappers. A wrapper is a rule that gives one tree more, which ends
+//! at the end of the tagged expression.
 ghost use Rattle.std.specs.Prelude.{◌≡◌, ◌<◌, ◌^◌, [], ⊤, IfOk, chars, length};
 ghost use Rattle.base_language.specs.Language.Expression.{Expression, Grammar};
 ghost use Rattle.base_ast.specs.Optimized.{optimized_expression_of, optimized_rule_of, optimized_rules_of};

@@ -11,5 +11,5 @@ returns c = λ e p.
     let t : c.is_mode.result ≡ true = grind (arith, common_steps) in
     let first : c.in-Some.point.now.at.label ≡ c.args.first = omega arith in
     let last : c.in-Some.point.now.at.next ≡ c.args.last = omega arith in
-    let way : c.in-Some.point.now.at.way ≡ 0 = omega arith in
-    body_made p c.args.points.now c.args.number c.in-Some.point.now within is c.in-Body.is rule (c.is_mode.ensures t) first last way
+    let on_fail : c.in-Some.point.now.at.on_fail ≡ 0 = omega arith in
+    body_made p c.args.points.now c.args.number c.in-Some.point.now within is c.in-Body.is rule (c.is_mode.ensures t) first last on_fail

@@ -9,5 +9,5 @@ returns c = λ e p.
     let is : c.in-Some.point.now ≡ get_or c.args.points.now c.args.number c.in-Some.point.now = grind (arith, common_steps) in
     let first : c.in-Some.point.now.at.label ≡ c.args.first = omega arith in
     let last : c.in-Some.point.now.at.next ≡ c.args.last = omega arith in
-    let way : c.in-Some.point.now.at.way ≡ 0 = omega arith in
-    skipping_made p c.args.points.now c.args.number c.in-Some.point.now within is c.in-Skipped.is first last way
+    let on_fail : c.in-Some.point.now.at.on_fail ≡ 0 = omega arith in
+    skipping_made p c.args.points.now c.args.number c.in-Some.point.now within is c.in-Skipped.is first last on_fail

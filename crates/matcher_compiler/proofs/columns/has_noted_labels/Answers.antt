@@ -31,20 +31,20 @@ loop-byte-preserved c =
                 let i : old.seen_to ≡ t = omega (arith, w.if-label-seen_to.false) in
                 let j : old.seen_next ≡ n = omega (arith, w.if-next-seen_next.false) in
                 let led : Skips code (Some b) x.second old.seen_next = subst (λ m. Skips code (Some b) x.second m) (sym j) (leads b (omega arith) (omega arith)) in
-                noted_label code x b t c.requires.noted none (subst (λ m. Notes code (Some b) x.second x.next x.way m) i (old.invariant.seen k (Some b) led))
+                noted_label code x b t c.requires.noted none (subst (λ m. Notes code (Some b) x.second x.next x.on_fail m) i (old.invariant.seen k (Some b) led))
             | else-columns-byte-eq0+else-not-skips w ↦
                 let k : w.skips.result ≡ true = grind (arith, common_steps, w.if-not-skips.false) in
                 inl (w.skips.ensures e k)
           ] in
           one_more code x c.args.from b (old.invariant.labels leads e) (subst (λ m. ContinuesAs code x (Some b) m) same one);
       seen = elim c.if-columns-byte-eq0.branch [
-        | then-columns-byte-eq0+then-not-is_seen+else-not-is_noted_from w ↦ λ s head led.
+        | then-columns-byte-eq0+then-not-is_seen+else-not-is_noted_from w ↦ λ s first_set led.
             let k : w.is_noted_from.result ≡ true = grind (arith, common_steps, w.if-not-is_noted_from.false) in
-            subst (λ m. Notes code head x.second x.next x.way m) (sym w.seen_to-is) (w.is_noted_from.ensures k head (subst (λ m. Skips code head x.second m) w.seen_next-is led))
-        | then-columns-byte-eq0+else-not-is_seen+else-label-seen_to+else-next-seen_next w ↦ λ s head led.
-            subst (λ m. Notes code head x.second x.next x.way m) (sym w.seen_to-is) (old.invariant.seen (sym w.is_seen-is ∙ s) head (subst (λ m. Skips code head x.second m) w.seen_next-is led))
-        | else-columns-byte-eq0+else-not-skips w ↦ λ s head led.
-            subst (λ m. Notes code head x.second x.next x.way m) (sym w.seen_to-is) (old.invariant.seen (sym w.is_seen-is ∙ s) head (subst (λ m. Skips code head x.second m) w.seen_next-is led))
+            subst (λ m. Notes code first_set x.second x.next x.on_fail m) (sym w.seen_to-is) (w.is_noted_from.ensures k first_set (subst (λ m. Skips code first_set x.second m) w.seen_next-is led))
+        | then-columns-byte-eq0+else-not-is_seen+else-label-seen_to+else-next-seen_next w ↦ λ s first_set led.
+            subst (λ m. Notes code first_set x.second x.next x.on_fail m) (sym w.seen_to-is) (old.invariant.seen (sym w.is_seen-is ∙ s) first_set (subst (λ m. Skips code first_set x.second m) w.seen_next-is led))
+        | else-columns-byte-eq0+else-not-skips w ↦ λ s first_set led.
+            subst (λ m. Notes code first_set x.second x.next x.on_fail m) (sym w.seen_to-is) (old.invariant.seen (sym w.is_seen-is ∙ s) first_set (subst (λ m. Skips code first_set x.second m) w.seen_next-is led))
       ];
     }
 

@@ -10,6 +10,6 @@ invariant-loop-byte l = record {
   labels : ((b : ℕ) → l.from ≤ b → b < l.to → Skips (lists_of l.code) (Some b) l.branch.second (get_or l.others b 0))
       → at_label (lists_of l.code) l.branch.first ≡ l.first → (b : ℕ) → l.from ≤ b → b < l.byte
       → ContinuesAs (lists_of l.code) l.branch (Some b) (label_for (lists_of l.code) l.branch.table (Some b));
-  seen : l.is_seen ≡ true → (head : Option ℕ) → Skips (lists_of l.code) head l.branch.second l.seen_next
-      → Notes (lists_of l.code) head l.branch.second l.branch.next l.branch.way l.seen_to;
+  seen : l.is_seen ≡ true → (first_set : Option ℕ) → Skips (lists_of l.code) first_set l.branch.second l.seen_next
+      → Notes (lists_of l.code) first_set l.branch.second l.branch.next l.branch.on_fail l.seen_to;
 }

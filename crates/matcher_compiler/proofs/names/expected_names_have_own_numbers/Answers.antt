@@ -4,5 +4,5 @@ use Rattle.matcher_compiler.proofs.names.expected_names_have_own_numbers.Goals a
 pub returns-clause-numbers : goal.returns-clause-numbers
 returns-clause-numbers c = λ g classes k s o place d. expected_have g place d
 
-pub returns-clause-own : goal.returns-clause-own
-returns-clause-own c = λ g n m. one_name g n m
+pub returns-clause-fresh : goal.returns-clause-fresh
+returns-clause-fresh c = λ g n m. one_name g n m

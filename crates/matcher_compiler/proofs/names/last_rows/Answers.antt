@@ -33,10 +33,10 @@ row_named : (rows : List Row) (next : ℕ) (row : Row) → next < length rows �
 row_named rows next row l is = get_or-map (λ r. text_of r.name) rows next row [] l ∙ ap (λ r. text_of r.name) (sym is)
 
 -- a map that has something at one key, and nothing at another
-apart : (b : Bool) (own name : List ℕ) (f : List ℕ → Option ℕ) (v : ℕ) → bytes_eq own name ≡ b → f own ≡ Some v → f name ≡ None → b ≡ false
-apart false own name f v e x y = refl
-apart true own name f v e x y =
-    let same : own ≡ name = (bytes_eq-Decides own name).0 e in
+apart : (b : Bool) (fresh name : List ℕ) (f : List ℕ → Option ℕ) (v : ℕ) → bytes_eq fresh name ≡ b → f fresh ≡ Some v → f name ≡ None → b ≡ false
+apart false fresh name f v e x y = refl
+apart true fresh name f v e x y =
+    let same : fresh ≡ name = (bytes_eq-Decides fresh name).0 e in
     let z : Some v ≡ None = sym x ∙ (ap f same ∙ y) in cc
 
 pub loop-below-preserved-in-Some : goal.loop-below-preserved-in-Some
@@ -45,20 +45,20 @@ loop-below-preserved-in-Some c =
     let w = c.loop-below.invariant in
     let next = c.loop-below.below - 1 in
     let row = c.index-rows-below.result in
-    let own = string_bytes row.name in
+    let fresh = string_bytes row.name in
     let at : next + 1 ≡ c.loop-below.below = omega (arith, c.loop-below-test.true) in
     let l : next < length rows = omega (arith, w.within, c.loop-below-test.true) in
-    let there : get_by_text c.loop-below.later own ≡ Some c.in-Some.last.now = grind (arith, common_steps) in
+    let there : get_by_text c.loop-below.later fresh ≡ Some c.in-Some.last.now = grind (arith, common_steps) in
     let valid = IsUtf8-string_bytes row.name in
     record {
       within = omega (arith, w.within);
       long = omega (arith, length-set {A = ℕ}, w.long);
       none = λ name u e.
-          let other = apart (bytes_eq own name) own name (λ k. get_by_text c.loop-below.later k) c.in-Some.last.now refl there e in
-          not_that_name rows c.loop-below.below next row (chars name) at l c.index-rows-below.is (w.none name u e) (sym (bytes_text_eq own name valid u) ∙ other);
+          let other = apart (bytes_eq fresh name) fresh name (λ k. get_by_text c.loop-below.later k) c.in-Some.last.now refl there e in
+          not_that_name rows c.loop-below.below next row (chars name) at l c.index-rows-below.is (w.none name u e) (sym (bytes_text_eq fresh name valid u) ∙ other);
       found = w.found;
       last = more rows c.loop-below.lasts.items c.loop-below.below next c.in-Some.last.now at w.within w.long w.last
-          (ap (last_place (grammar_of rows)) (row_named rows next row l c.index-rows-below.is) ∙ w.found own c.in-Some.last.now valid there);
+          (ap (last_place (grammar_of rows)) (row_named rows next row l c.index-rows-below.is) ∙ w.found fresh c.in-Some.last.now valid there);
     }
 
 -- what a map has at a key, after another key was set
@@ -72,31 +72,31 @@ loop-below-preserved c =
     let w = c.loop-below.invariant in
     let next = c.loop-below.below - 1 in
     let row = c.index-rows-below.result in
-    let own = string_bytes row.name in
+    let fresh = string_bytes row.name in
     let bs = string_bytes c.in_ok-key-in-None.key in
     let at : next + 1 ≡ c.loop-below.below = omega (arith, c.loop-below-test.true) in
     let l : next < length rows = omega (arith, w.within, c.loop-below-test.true) in
-    let key : bs ≡ own = search rules in
-    let absent : get_by_text c.loop-below.later own ≡ None = grind (arith, common_steps) in
+    let key : bs ≡ fresh = search rules in
+    let absent : get_by_text c.loop-below.later fresh ≡ None = grind (arith, common_steps) in
     let valid = IsUtf8-string_bytes row.name in
-    let here : last_place (grammar_of rows) (chars own) ≡ Some next
-    = that_name rows c.loop-below.below next row (chars own) at l c.index-rows-below.is (w.none own valid absent) ((bytes_eq-Decides (chars own) (chars own)).1 refl) in
+    let here : last_place (grammar_of rows) (chars fresh) ≡ Some next
+    = that_name rows c.loop-below.below next row (chars fresh) at l c.index-rows-below.is (w.none fresh valid absent) ((bytes_eq-Decides (chars fresh) (chars fresh)).1 refl) in
     let updates = λ (name : List ℕ). hash_map_updates_text bs c.loop-below.later c.insert.new.self _ c.in_ok-insert-in-None.ensures.updates name in
     let same : (name : List ℕ) → IsUtf8 name → bytes_eq bs name ≡ bytes_eq (text_of row.name) (chars name)
-    = λ name u. ap (λ z. bytes_eq z name) key ∙ bytes_text_eq own name valid u in
+    = λ name u. ap (λ z. bytes_eq z name) key ∙ bytes_text_eq fresh name valid u in
     record {
       within = omega (arith, w.within);
       long = omega (arith, length-set {A = ℕ}, w.long);
       none = λ name u e.
           let x = set_none (bytes_eq bs name) _ _ (sym (updates name) ∙ e) in
           not_that_name rows c.loop-below.below next row (chars name) at l c.index-rows-below.is (w.none name u x.1) (sym (same name u) ∙ x.0);
-      found = λ name i u e. set_some rows (bytes_eq bs name) next i own name _ (ap (λ z. bytes_eq z name) (sym key)) (sym (updates name) ∙ e) here (w.found name i u);
+      found = λ name i u e. set_some rows (bytes_eq bs name) next i fresh name _ (ap (λ z. bytes_eq z name) (sym key)) (sym (updates name) ∙ e) here (w.found name i u);
       last = more rows c.loop-below.lasts.items c.loop-below.below next next at w.within w.long w.last
           (ap (last_place (grammar_of rows)) (row_named rows next row l c.index-rows-below.is) ∙ here);
     }
   where
-    set_some : (rows : List Row) (b : Bool) (n i : ℕ) (own name : List ℕ) (o : Option ℕ) → bytes_eq own name ≡ b → (if b then Some n else o) ≡ Some i
-        → last_place (grammar_of rows) (chars own) ≡ Some n → (o ≡ Some i → last_place (grammar_of rows) (chars name) ≡ Some i) → last_place (grammar_of rows) (chars name) ≡ Some i
-    set_some rows true n i own name o f e here old =
-        ap (λ k. last_place (grammar_of rows) (chars k)) (sym ((bytes_eq-Decides own name).0 f)) ∙ (here ∙ e)
-    set_some rows false n i own name o f e here old = old e
+    set_some : (rows : List Row) (b : Bool) (n i : ℕ) (fresh name : List ℕ) (o : Option ℕ) → bytes_eq fresh name ≡ b → (if b then Some n else o) ≡ Some i
+        → last_place (grammar_of rows) (chars fresh) ≡ Some n → (o ≡ Some i → last_place (grammar_of rows) (chars name) ≡ Some i) → last_place (grammar_of rows) (chars name) ≡ Some i
+    set_some rows true n i fresh name o f e here old =
+        ap (λ k. last_place (grammar_of rows) (chars k)) (sym ((bytes_eq-Decides fresh name).0 f)) ∙ (here ∙ e)
+    set_some rows false n i fresh name o f e here old = old e

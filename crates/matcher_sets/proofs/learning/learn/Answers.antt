@@ -3,7 +3,7 @@ use Rattle.std.specs.Prelude.{IfSome}
 use Rattle.std.proofs.lemmas.Grind.{common_steps}
 use Rattle.matcher_program.specs.declared.form.Row.{Row}
 use Rattle.matcher_sets.specs.Forms.{said}
-use Rattle.matcher_sets.specs.Heads.{HasHead}
+use Rattle.matcher_sets.specs.FirstSets.{HasFirstSet}
 use Rattle.matcher_sets.specs.Modes.{mode_of}
 use Rattle.matcher_sets.proofs.learning.learn.Goals as goal
 
@@ -16,5 +16,5 @@ pub returns : goal.returns
 returns c =
     let p = c.args.program.now in
     let is : c.in-Some.row.now ≡ get_or p.rows.items c.args.rule c.in-Some.row.now = grind (arith, common_steps) in
-    c.set_head.ensures p c.requires.heads (λ (d : Row) (l : c.args.rule < length p.rows.items).
-    subst (λ r. IfSome c.in_ok-made.made (HasHead p (mode_of c.args.mode) (said p r.body))) (is ∙ same_default p.rows.items c.args.rule c.in-Some.row.now d l) c.in_ok-made.ensures)
+    c.set_first_set.ensures p c.requires.first_sets (λ (d : Row) (l : c.args.rule < length p.rows.items).
+    subst (λ r. IfSome c.in_ok-made.made (HasFirstSet p (mode_of c.args.mode) (said p r.body))) (is ∙ same_default p.rows.items c.args.rule c.in-Some.row.now d l) c.in_ok-made.ensures)

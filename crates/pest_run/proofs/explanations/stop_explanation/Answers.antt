@@ -15,4 +15,4 @@ returns-in-Ok c = λ g rule text format taken.
 pub returns-in-EmptyStack : goal.returns-in-EmptyStack
 returns-in-EmptyStack c = λ g rule text format none.
     let P : Stop → Type 0 = λ s. IsStopped g (chars rule) (start_of text) is_in_property c.args.steps s in
-    inl (λ failed. subst P c.in-EmptyStack.is none Failed failed)
+    inl (λ failed. (subst P c.in-EmptyStack.is none).0 Failed failed)

@@ -1,11 +1,12 @@
-use Rattle.std.proofs.Common.{◌∙◌, subst, sym}
-use Rattle.matcher_engine.specs.Matchers.{grammar_in, properties_in}
-use Rattle.pest_run.specs.Forms.{HasMatch}
+use Rattle.std.proofs.Common.{◌∙◌, sym}
+use Rattle.base_ast.specs.Optimized.{optimized_rules_of}
+use Rattle.matcher_support.specs.Compiled.{IsCompiled}
 use Rattle.pest_run.proofs.OptimizedMatch.{preorder_shows_match}
 use Rattle.pest_run.proofs.forms.has_match.Goals as goal
 
-pub returns : goal.returns
-returns c = λ e.
-    let m = c.in-Ok.matcher in
-    let found = preorder_shows_match (grammar_in m) (properties_in m) c.args.rule.now c.args.text.now c.match_text.result c.in-Ok.ensures.fits c.match_text.ensures.matched (sym c.is_ok.ensures.value ∙ e) in
-    subst (λ g. HasMatch g c.args.rule.now c.args.text.now) c.in-Ok.ensures.means found
+pub returns-in-Ok-Some : goal.returns-in-Ok-Some
+returns-in-Ok-Some c = λ e.
+    let g = optimized_rules_of c.args.rules.now in
+    let read = rw c.in-Ok-Some.field-0-is at c.in-Ok-Some.ensures in
+    let is : IsCompiled c.args.rules.now c.in-Ok.block.items = record { whole = c.in-Ok.ensures.whole; code = c.in-Ok.ensures.compiled; has = c.in-Ok.ensures.rules } in
+    preorder_shows_match g c.args.rule.now c.args.text.now c.match_text.result (c.match_text.ensures.matched g (read c.args.rules.now (rw c.deref.ensures.value is))) (sym c.is_ok.ensures.value ∙ e)

@@ -14,4 +14,4 @@ returns-clause-later c = c.in_ok-operation.ensures.later c.args.program.now
 pub returns-clause-lays : goal.returns-clause-lays
 returns-clause-lays c = λ classes fits code laid m.
     lay.leaf (λ s. end_outcome AtomicMode s.rest s) in_silence (bare_end_outcome c.args.program.now classes c.args.at.mode c.requires.bound c.requires.unseen)
-    (bare_end_performs code (number_in (grammar_in c.args.program.now)) m.fail c.args.at.label c.args.at.next c.args.at.way (c.in_ok-operation.ensures.met c.args.program.now code laid m))
+    (bare_end_performs code (number_in (grammar_in c.args.program.now)) m.fail c.args.at.label c.args.at.next c.args.at.on_fail (c.in_ok-operation.ensures.met c.args.program.now code laid m))

@@ -16,5 +16,5 @@ pub returns-clause-lays : goal.returns-clause-lays
 returns-clause-lays c = λ a b left right classes fits code laid m.
     let x = c.in_ok-parts.ensures.lays code laid m in
     let at = c.args.at in
-    subst (λ w. lay.Lays (is_exact code) (grammar_in c.args.program.now) classes code (number_in (grammar_in c.args.program.now)) laid at.rank (Run (mode_of at.mode) (Seq a b)) at.label at.next w) (sym c.requires.way)
+    subst (λ w. lay.Lays (is_exact code) (grammar_in c.args.program.now) classes code (number_in (grammar_in c.args.program.now)) laid at.rank (Run (mode_of at.mode) (Seq a b)) at.label at.next w) (sym c.requires.on_fail)
     (lay.seq x.behind x.begin (part_as laid left x.left) x.skipping (part_as laid right x.right))

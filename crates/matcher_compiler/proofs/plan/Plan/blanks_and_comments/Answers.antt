@@ -19,5 +19,5 @@ returns-clause-lays c = λ classes fits code laid m.
     let at = c.args.at in
     let m2 = (c.in_ok-point-3.ensures.later p tt).met code laid m in
     let m1 = (c.in_ok-point-2.ensures.later p tt).met code laid m2 in
-    subst (λ w. lay.Lays (is_exact code) (grammar_in p) classes code (number_in (grammar_in p)) laid at.rank (Run Between skipped) at.label at.next w) (sym c.requires.way)
+    subst (λ w. lay.Lays (is_exact code) (grammar_in p) classes code (number_in (grammar_in p)) laid at.rank (Run Between skipped) at.label at.next w) (sym c.requires.on_fail)
     (lay.seq _ _ (c.in_ok-point.ensures.has p code laid m1) (c.in_ok-point-2.ensures.has p code laid m2) (c.in_ok-point-3.ensures.has p code laid m))

@@ -31,8 +31,8 @@ returns-clause-lays c = λ classes fits code laid m.
     let up : 0 < at.next = omega arith in
     let s = c.requires.set in
     let b = s.blank classes fits in
-    let h = c.args.head in
-    subst (λ w. lay.Lays (is_exact code) (grammar_in p) classes code (number_in (grammar_in p)) laid at.rank (Run Between skipped) at.label at.next w) (sym c.requires.way)
+    let h = c.args.first_set in
+    subst (λ w. lay.Lays (is_exact code) (grammar_in p) classes code (number_in (grammar_in p)) laid at.rank (Run Between skipped) at.label at.next w) (sym c.requires.on_fail)
     (lay.set_seq _ (tight_between (grammar_in p) classes)
     (gap_of code (number_in (grammar_in p)) m.fail (is_exact code) (grammar_in p) classes (Run Between blanks) (Run Between (Rep one_comment)) c.args.set c.in_ok-stops.stops
     s.ranges h.ranges.items b.characters h.noted at.label _ at.next c.in_ok-miss.miss (c.in_ok-operation.ensures.met p code laid m3)

@@ -18,4 +18,4 @@ returns-clause-lays c = λ classes fits code laid m.
     let b = s.blank classes fits in
     lay.leaf (skip_set b.characters) in_silence b.takes
     (all_as s.ranges b.characters b.covers code (number_in (grammar_in p)) m.fail c.args.set (λ x bs h u. m0.sets c.args.set x bs s.within h ∙ s.is x bs h u)
-    c.args.at.label c.args.at.next c.args.at.way (c.in_ok-operation.ensures.met p code laid m))
+    c.args.at.label c.args.at.next c.args.at.on_fail (c.in_ok-operation.ensures.met p code laid m))

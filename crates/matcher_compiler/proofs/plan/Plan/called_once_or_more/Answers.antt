@@ -16,6 +16,6 @@ returns-clause-lays c = λ classes fits code laid m.
     let m3 = (c.in_ok-operation-3.ensures.later p).met code laid m4 in
     let m2 = (c.in_ok-point.ensures.later p tt).met code laid m3 in
     let m1 = (c.in_ok-operation-2.ensures.later p).met code laid m2 in
-    lay.called_seq _ _ _ c.args.own _ _ (c.in_ok-operation.ensures.met p code laid m1) (c.in_ok-operation-2.ensures.met p code laid m2)
+    lay.called_seq _ _ _ c.args.fresh _ _ (c.in_ok-operation.ensures.met p code laid m1) (c.in_ok-operation-2.ensures.met p code laid m2)
     (c.in_ok-point.ensures.has p code laid m3) (c.in_ok-operation-3.ensures.met p code laid m4) (c.in_ok-called_turns.ensures.turns code laid m)
     (c.in_ok-operation-4.ensures.met p code laid m5)

@@ -17,4 +17,4 @@ returns-clause-lays c = λ classes fits code laid m.
     let x = c.requires.ranges classes fits in
     lay.leaf (character_outcome x.characters) in_silence (x.holds c.args.at.mode)
     (one_as c.args.ranges.items x.characters x.covers code (number_in (grammar_in p)) m.fail c.in_ok-set.set
-    (c.in_ok-set.ensures.means p code laid m1) c.args.at.label c.args.at.next c.args.at.way (c.in_ok-operation.ensures.met p code laid m))
+    (c.in_ok-set.ensures.means p code laid m1) c.args.at.label c.args.at.next c.args.at.on_fail (c.in_ok-operation.ensures.met p code laid m))

@@ -6,4 +6,4 @@ pub returns-clause-later : goal.returns-clause-later
 returns-clause-later c = c.in_ok-turns_between.ensures.later
 
 pub returns-clause-lays : goal.returns-clause-lays
-returns-clause-lays c = c.in_ok-turns_between.ensures.lays one_comment refl c.in_ok-head.ensures
+returns-clause-lays c = c.in_ok-turns_between.ensures.lays one_comment refl c.in_ok-first_set.ensures

@@ -13,4 +13,4 @@ returns-clause-later c = c.in_ok-operation.ensures.later c.args.program.now
 pub returns-clause-lays : goal.returns-clause-lays
 returns-clause-lays c = λ classes fits code laid m.
     lay.leaf (λ s. drop_outcome s.stack s) in_silence (discard_has c.args.program.now classes c.args.at.mode c.requires.bound)
-    (discard_performs code (number_in (grammar_in c.args.program.now)) m.fail c.args.at.label c.args.at.next c.args.at.way (c.in_ok-operation.ensures.met c.args.program.now code laid m))
+    (discard_performs code (number_in (grammar_in c.args.program.now)) m.fail c.args.at.label c.args.at.next c.args.at.on_fail (c.in_ok-operation.ensures.met c.args.program.now code laid m))

@@ -37,11 +37,11 @@ returns-clause-lays c = λ classes fits code laid m.
     let up : 0 < at.next = omega arith in
     let s = r.set in
     let k = s.blank classes fits in
-    let h = c.args.head in
+    let h = c.args.first_set in
     let skips = subst (λ i. HasOutcome g classes (Skipping i) (skip_set k.characters) in_silence) (sym r.mode) (blanks_alone g classes k.characters r.none k.takes) in
-    let left = subst (λ w. IsPart laid at.rank (Run (mode_of at.mode) a) at.label c.args.own w) r.way (c.in_ok-point.ensures.has p code laid m4) in
-    let right = subst (λ w. IsPart laid at.rank (Run (mode_of at.mode) b) c.saturating_add-begin.result at.next w) r.way (c.in_ok-point-2.ensures.has p code laid m) in
-    subst (λ w. lay.Lays (is_exact code) g classes code (number_in g) laid at.rank (Run (mode_of at.mode) (Seq a b)) at.label at.next w) (sym r.way)
+    let left = subst (λ w. IsPart laid at.rank (Run (mode_of at.mode) a) at.label c.args.fresh w) r.on_fail (c.in_ok-point.ensures.has p code laid m4) in
+    let right = subst (λ w. IsPart laid at.rank (Run (mode_of at.mode) b) c.saturating_add-begin.result at.next w) r.on_fail (c.in_ok-point-2.ensures.has p code laid m) in
+    subst (λ w. lay.Lays (is_exact code) g classes code (number_in g) laid at.rank (Run (mode_of at.mode) (Seq a b)) at.label at.next w) (sym r.on_fail)
     (lay.gap_seq _ _ left
     (gap_of code (number_in g) m.fail (is_exact code) g classes (Skipping (mode_of at.mode)) (Run (mode_of at.mode) b) c.args.set c.in_ok-stops.stops
     s.ranges h.ranges.items k.characters h.noted _ _ at.next c.in_ok-miss.miss (c.in_ok-operation.ensures.met p code laid m3)

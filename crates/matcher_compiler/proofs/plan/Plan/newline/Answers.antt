@@ -19,5 +19,5 @@ returns-clause-lays c = λ classes fits code laid m.
     let m2 = (c.in_ok-text_at-3.ensures.later p).met code laid m in
     let m1 = (c.in_ok-text_at-2.ensures.later p).met code laid m2 in
     lay.leaf newline_outcome in_silence (newline_outcome_of p classes c.args.at.mode c.requires.bound)
-    (newline_performs code (number_in (grammar_in p)) m.fail c.args.at.label _ _ c.args.at.next c.args.at.way
+    (newline_performs code (number_in (grammar_in p)) m.fail c.args.at.label _ _ c.args.at.next c.args.at.on_fail
     (c.in_ok-text_at.ensures.has p code laid m1) (c.in_ok-text_at-2.ensures.has p code laid m2) (c.in_ok-text_at-3.ensures.has p code laid m))

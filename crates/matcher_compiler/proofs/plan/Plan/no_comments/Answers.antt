@@ -19,4 +19,4 @@ returns-clause-lays c = λ classes fits code laid m.
     let m0 = (c.in_ok-operation.ensures.later p).met code laid m in
     lay.leaf (skip_set (λ x. false)) in_silence (no_comments (grammar_in p) classes c.requires.none)
     (all_as [] (λ x. false) (λ x l. refl) code (number_in (grammar_in p)) m.fail c.in-Calls.set (λ x bs h u. m0.sets c.in-Calls.set x bs r.within h ∙ r.is x bs h u)
-    c.args.at.label c.args.at.next c.args.at.way (c.in_ok-operation.ensures.met p code laid m))
+    c.args.at.label c.args.at.next c.args.at.on_fail (c.in_ok-operation.ensures.met p code laid m))

@@ -25,4 +25,4 @@ returns-clause-lays c = λ classes fits code laid m.
     lay.leaf (character_outcome (λ k. not (x.characters k) && y.characters k)) in_silence
     (other_matches (grammar_in p) classes (mode_of i) (said p c.args.first.now) (said p c.args.second.now) x.characters y.characters (c.requires.tight classes) (x.holds i) (y.holds i))
     (one_as d.ranges (λ k. not (x.characters k) && y.characters k) (λ k l. d.covers k l ∙ ap₂ (λ a b. not a && b) (x.covers k l) (y.covers k l))
-    code (number_in (grammar_in p)) m.fail c.in_ok-set.set d.is c.args.at.label c.args.at.next c.args.at.way (c.in_ok-operation.ensures.met p code laid m))
+    code (number_in (grammar_in p)) m.fail c.in_ok-set.set d.is c.args.at.label c.args.at.next c.args.at.on_fail (c.in_ok-operation.ensures.met p code laid m))

@@ -14,4 +14,4 @@ returns-clause-later c = c.in_ok-operation.ensures.later c.args.program.now
 pub returns-clause-lays : goal.returns-clause-lays
 returns-clause-lays c = λ classes fits code laid m.
     lay.leaf (λ s. with_stack [] (text_outcome nat_eq (concatenated s.stack) s)) in_silence (pop_all_has c.args.program.now classes c.args.at.mode c.requires.bound)
-    (pop_all_performs code (number_in (grammar_in c.args.program.now)) m.fail c.args.at.label c.args.at.next c.args.at.way (c.in_ok-operation.ensures.met c.args.program.now code laid m))
+    (pop_all_performs code (number_in (grammar_in c.args.program.now)) m.fail c.args.at.label c.args.at.next c.args.at.on_fail (c.in_ok-operation.ensures.met c.args.program.now code laid m))

@@ -16,5 +16,5 @@ pub returns-clause-lays : goal.returns-clause-lays
 returns-clause-lays c = λ classes fits code laid m.
     let m1 = (c.in_ok-operation.ensures.later c.args.program.now).met code laid m in
     lay.leaf (λ s. Success (with_top (chars c.args.text.now) s) None') in_silence (λ s. (push_literal, λ place. refl))
-    (push_text_performs code (number_in (grammar_in c.args.program.now)) m.fail c.args.at.label c.args.at.next c.args.at.way c.in_ok-number.number c.args.text.now c.utf8.text
+    (push_text_performs code (number_in (grammar_in c.args.program.now)) m.fail c.args.at.label c.args.at.next c.args.at.on_fail c.in_ok-number.number c.args.text.now c.utf8.text
     (c.in_ok-number.ensures.means c.args.program.now code laid m1) (c.in_ok-operation.ensures.met c.args.program.now code laid m))

@@ -26,4 +26,4 @@ returns-clause-lays c = λ classes fits code laid m.
     lay.leaf (λ s. Success (moved (distance ts s.rest) s) None') in_silence (λ s. (by.skip, λ place. refl))
     (until_performs code c.in_ok-firsts.firsts c.in_ok-list.list ts
     (record { ranges = c.args.ranges.items; is = c.in_ok-firsts.ensures.means p code laid m1; starts = c.requires.starts; valid = x.valid; same = x.same })
-    (number_in (grammar_in p)) m.fail c.args.at.label c.args.at.next c.args.at.way (c.in_ok-operation.ensures.met p code laid m))
+    (number_in (grammar_in p)) m.fail c.args.at.label c.args.at.next c.args.at.on_fail (c.in_ok-operation.ensures.met p code laid m))

@@ -16,7 +16,7 @@ returns-clause-lays c = λ classes fits code laid m.
     let m2 = (c.in_ok-operation.ensures.later p).met code laid m3 in
     let m1 = (c.in_ok-set.ensures.later p).met code laid m2 in
     let up : 0 < c.args.at.next = omega arith in
-    lay.tight_rep c.args.own (c.requires.tight classes) (c.in_ok-demand.ensures.met p code laid m1) up
+    lay.tight_rep c.args.fresh (c.requires.tight classes) (c.in_ok-demand.ensures.met p code laid m1) up
     (inr (record {
       set = c.in_ok-set.set;
       ranges = c.args.ranges.items;

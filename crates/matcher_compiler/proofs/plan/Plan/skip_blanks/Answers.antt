@@ -22,4 +22,4 @@ returns-clause-lays c = λ classes fits code laid m.
     (subst (λ k. HasOutcome (grammar_in p) classes (Skipping k) (skip_set b.characters) in_silence) (sym c.requires.mode)
     (blanks_alone (grammar_in p) classes b.characters c.requires.none b.takes))
     (all_as s.ranges b.characters b.covers code (number_in (grammar_in p)) m.fail c.args.set (λ x bs h u. m0.sets c.args.set x bs s.within h ∙ s.is x bs h u)
-    c.args.at.label c.args.at.next c.args.at.way (c.in_ok-operation.ensures.met p code laid m))
+    c.args.at.label c.args.at.next c.args.at.on_fail (c.in_ok-operation.ensures.met p code laid m))

@@ -13,5 +13,5 @@ pub returns-clause-lays : goal.returns-clause-lays
 returns-clause-lays c = λ classes fits code laid m.
     let p = c.args.program.now in
     let at = c.args.at in
-    subst (λ k. lay.Lays (is_exact code) (grammar_in p) classes code (number_in (grammar_in p)) laid at.rank (Skipping k) at.label at.next at.way) (sym c.requires.mode)
+    subst (λ k. lay.Lays (is_exact code) (grammar_in p) classes code (number_in (grammar_in p)) laid at.rank (Skipping k) at.label at.next at.on_fail) (sym c.requires.mode)
     (lay.skips (c.in_ok-point.ensures.has p code laid m))

@@ -18,5 +18,5 @@ returns-clause-lays c = λ classes fits code laid m.
     let at = c.args.at in
     let m2 = (c.in_ok-operation-2.ensures.later p).met code laid m in
     let m1 = (c.in_ok-operation.ensures.later p).met code laid m2 in
-    subst (λ k. lay.Lays (is_exact code) (grammar_in p) classes code (number_in (grammar_in p)) laid at.rank (Skipping k) at.label at.next at.way) (sym c.requires.mode)
+    subst (λ k. lay.Lays (is_exact code) (grammar_in p) classes code (number_in (grammar_in p)) laid at.rank (Skipping k) at.label at.next at.on_fail) (sym c.requires.mode)
     (lay.routine _ _ (c.in_ok-operation-2.ensures.met p code laid m) (c.in_ok-to.ensures.has code laid m1) (c.in_ok-operation.ensures.met p code laid m2))

@@ -17,5 +17,5 @@ pub returns-clause-lays : goal.returns-clause-lays
 returns-clause-lays c = λ classes fits code laid m.
     let small : FitsSigned w32 c.args.from = search rules in
     lay.leaf (slice_outcome c.args.from c.args.to) in_silence (λ s. (slice, λ place. refl))
-    (slice_performs code (number_in (grammar_in c.args.program.now)) m.fail c.args.at.label c.args.at.next c.args.at.way c.args.from c.args.to
+    (slice_performs code (number_in (grammar_in c.args.program.now)) m.fail c.args.at.label c.args.at.next c.args.at.on_fail c.args.from c.args.to
     (rw (to_z-of_z w32 c.args.from small) at (c.in_ok-operation.ensures.met c.args.program.now code laid m)))

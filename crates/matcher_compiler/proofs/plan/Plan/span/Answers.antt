@@ -16,4 +16,4 @@ returns-clause-lays c = λ p k takes classes fits code laid m.
     let x = takes classes fits in
     lay.leaf (skip_set x.characters) in_silence x.takes
     (all_as c.args.ranges.items x.characters x.covers code (number_in (grammar_in p)) m.fail c.in_ok-set.set
-    (c.in_ok-set.ensures.means p code laid m1) c.args.at.label c.args.at.next c.args.at.way (c.in_ok-operation.ensures.met p code laid m))
+    (c.in_ok-set.ensures.means p code laid m1) c.args.at.label c.args.at.next c.args.at.on_fail (c.in_ok-operation.ensures.met p code laid m))

@@ -31,9 +31,9 @@ returns-clause-lays c = λ e takes classes fits code laid m.
     let m1 = (c.in_ok-set.ensures.later p).met code laid m2 in
     let up : 0 < at.next = omega arith in
     let x = takes classes fits in
-    let h = c.args.head in
-    let right = subst (λ w. IsPart laid at.rank (Run (mode_of at.mode) b) c.args.own at.next w) r.way (c.in_ok-point.ensures.has p code laid m) in
-    subst (λ w. lay.Lays (is_exact code) g classes code (number_in g) laid at.rank (Run (mode_of at.mode) (Seq e b)) at.label at.next w) (sym r.way)
+    let h = c.args.first_set in
+    let right = subst (λ w. IsPart laid at.rank (Run (mode_of at.mode) b) c.args.fresh at.next w) r.on_fail (c.in_ok-point.ensures.has p code laid m) in
+    subst (λ w. lay.Lays (is_exact code) g classes code (number_in g) laid at.rank (Run (mode_of at.mode) (Seq e b)) at.label at.next w) (sym r.on_fail)
     (lay.set_seq _ (r.tight classes)
     (gap_of code (number_in g) m.fail (is_exact code) g classes (Run (mode_of at.mode) e) (Run (mode_of at.mode) b) c.in_ok-set.set c.in_ok-stops.stops
     c.args.ranges.items h.ranges.items x.characters h.noted at.label _ at.next c.in_ok-miss.miss (c.in_ok-operation.ensures.met p code laid m4)

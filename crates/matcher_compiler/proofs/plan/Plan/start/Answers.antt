@@ -14,4 +14,4 @@ returns-clause-later c = c.in_ok-operation.ensures.later c.args.program.now
 pub returns-clause-lays : goal.returns-clause-lays
 returns-clause-lays c = λ classes fits code laid m.
     lay.leaf (λ s. if s.position == 0 then Success s None' else Failure) in_silence (start_outcome c.args.program.now classes c.args.at.mode c.requires.bound)
-    (start_performs code (number_in (grammar_in c.args.program.now)) m.fail c.args.at.label c.args.at.next c.args.at.way (c.in_ok-operation.ensures.met c.args.program.now code laid m))
+    (start_performs code (number_in (grammar_in c.args.program.now)) m.fail c.args.at.label c.args.at.next c.args.at.on_fail (c.in_ok-operation.ensures.met c.args.program.now code laid m))

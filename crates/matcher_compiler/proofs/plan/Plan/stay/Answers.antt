@@ -12,5 +12,5 @@ returns-then-at c = record {
   lays = λ classes fits code laid m.
       let g = grammar_in c.args.program.now in
       let e : c.args.at.label ≡ c.args.at.next = omega arith in
-      subst (λ n. lay.Lays (is_exact code) g classes code (number_in g) laid c.args.at.rank (Skipping (mode_of c.args.at.mode)) c.args.at.label n c.args.at.way) e (lay.nothing (c.requires.tight classes));
+      subst (λ n. lay.Lays (is_exact code) g classes code (number_in g) laid c.args.at.rank (Skipping (mode_of c.args.at.mode)) c.args.at.label n c.args.at.on_fail) e (lay.nothing (c.requires.tight classes));
 }

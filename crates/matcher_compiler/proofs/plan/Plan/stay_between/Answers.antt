@@ -13,5 +13,5 @@ returns-then-at c = record {
   lays = λ classes fits code laid m.
       let g = grammar_in c.args.program.now in
       let e : c.args.at.label ≡ c.args.at.next = omega arith in
-      subst (λ n. lay.Lays (is_exact code) g classes code (number_in g) laid c.args.at.rank (Skipping Between) c.args.at.label n c.args.at.way) e (lay.nothing (tight_between g classes));
+      subst (λ n. lay.Lays (is_exact code) g classes code (number_in g) laid c.args.at.rank (Skipping Between) c.args.at.label n c.args.at.on_fail) e (lay.nothing (tight_between g classes));
 }

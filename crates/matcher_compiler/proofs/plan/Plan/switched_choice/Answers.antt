@@ -14,5 +14,5 @@ returns-clause-lays c = λ classes fits code laid m.
     let m3 = (c.in_ok-point-2.ensures.later p c.requires.right_bound).met code laid m in
     let m2 = c.in_ok-label.ensures.later.met code laid m3 in
     let m1 = (c.in_ok-point.ensures.later p c.requires.left_bound).met code laid m2 in
-    lay.switched_choice c.args.own _ c.in_ok-label.label c.requires.up (c.in_ok-table.ensures.branches p _ c.requires.fails classes fits code laid m1)
+    lay.switched_choice c.args.fresh _ c.in_ok-label.label c.requires.up (c.in_ok-table.ensures.branches p _ c.requires.fails classes fits code laid m1)
     (c.in_ok-point.ensures.has p code laid m2) (c.in_ok-label.ensures.enters classes fits code laid m3) (c.in_ok-point-2.ensures.has p code laid m)

@@ -13,8 +13,8 @@ returns-clause-branches c = λ p k fails classes fits code laid m.
     record {
       table = c.args.self.now.tables;
       set = c.in_ok-set.set;
-      ranges = c.args.head.ranges.items;
-      noted = c.args.head.noted;
+      ranges = c.args.first_set.ranges.items;
+      noted = c.args.first_set.noted;
       switched = c.in_ok-operation.ensures.met p code laid m2;
       is = c.in_ok-set.ensures.means p code laid m1;
       fails = fails classes fits;

@@ -13,9 +13,9 @@ returns-clause-enters c = λ p k fails classes fits code laid m.
     let m1 = (c.in_ok-set.ensures.later p).met code laid m2 in
     inr (record {
       set = c.in_ok-set.set;
-      ranges = c.args.head.ranges.items;
-      noted = c.args.head.noted;
-      allowed = if_noted code c.args.head.noted _ _ (c.in_ok-miss.ensures.goes p code laid m1);
+      ranges = c.args.first_set.ranges.items;
+      noted = c.args.first_set.noted;
+      allowed = if_noted code c.args.first_set.noted _ _ (c.in_ok-miss.ensures.goes p code laid m1);
       miss = c.in_ok-miss.miss;
       tested = c.in_ok-operation.ensures.met p code laid m;
       is = c.in_ok-set.ensures.means p code laid m2;

@@ -11,4 +11,4 @@ returns-clause-lays c = λ classes fits code laid m.
     let up = c.requires.up in
     let x = c.in_ok-alternative.ensures.begins classes fits code laid m1 in
     let y = c.in_ok-alternative-2.ensures.begins classes fits code laid m in
-    lay.choice c.args.own x.first y.first up x.entered x.point y.entered y.point
+    lay.choice c.args.fresh x.first y.first up x.entered x.point y.entered y.point

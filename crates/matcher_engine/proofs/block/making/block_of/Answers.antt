@@ -3,6 +3,8 @@ use Rattle.std.proofs.lemmas.List.{length-map}
 use Rattle.format_code.specs.Codes.{lists_at}
 use Rattle.format_code.specs.Sections.{section}
 use Rattle.matcher_compiler.specs.Compiled.{IsCodeOf}
+use Rattle.matcher_compiler.specs.Extents.{IsFitting}
+use Rattle.matcher_machine.specs.Kinds.{IsFramed}
 use Rattle.matcher_engine.specs.Blocks.{part_of}
 use Rattle.matcher_engine.proofs.block.making.block_of.Goals as goal
 
@@ -17,8 +19,10 @@ returns-clause-code c =
     ap (λ bs. section bs 1) behind ∙ (c.in_ok-sections.ensures 1 (lit< tt) ∙ c.as_slice-2.ensures.value) in
     record {
       head = c.in_ok-block.ensures.whole.head;
-      plain = subst (λ bs. IsCodeOf false p (lists_at bs)) (sym plain) c.in_ok-code.ensures;
+      plain = subst (λ bs. IsCodeOf false p (lists_at bs)) (sym plain) c.in_ok-code.ensures.code;
       exact = subst (λ bs. IsCodeOf true p (lists_at bs)) (sym exact) c.in_ok-exact.ensures;
+      fits = subst (λ bs. IsFitting p (lists_at bs)) (sym plain) c.in_ok-code.ensures.fits;
+      framed = subst (λ bs. IsFramed (lists_at bs)) (sym plain) c.in_ok-code.ensures.framed;
     }
 
 pub returns-clause-rules : goal.returns-clause-rules
