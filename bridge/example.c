@@ -9,7 +9,6 @@
 #include <pest_meta.h>
 
 #include <stdio.h>
-#include <stdlib.h>
 #include <string.h>
 
 static uint8_t out[65536];
@@ -49,35 +48,6 @@ static void show_bytes(const char *call, uint8_t status, size_t needed)
     printf("\n");
 }
 
-/* Runs a rule on a text, by rules of two that match "x!". */
-static void run(const char *call, const char *rule, const char *text, uint64_t steps, size_t room)
-{
-    static const char rules[] = "[{\"name\":\"a\",\"type\":\"normal\",\"expr\":[[\"seq\"],[\"ident\",\"b\"],[\"str\",\"!\"]]},"
-                                "{\"name\":\"b\",\"type\":\"normal\",\"expr\":[[\"str\",\"x\"]]}]";
-    size_t needed = 0;
-    uint8_t status = pest_meta_match((const uint8_t *)rules, strlen(rules), (const uint8_t *)rule, strlen(rule),
-                                     (const uint8_t *)text, strlen(text), steps, numbers, room, &needed);
-    show_numbers(call, status, needed);
-}
-
-/* Runs a rule on two texts, by rules in binary form. */
-static void run_prepared(const uint8_t *rules, size_t length, const char *rule)
-{
-    static uint8_t prepared[1024];
-    static const char *const texts[] = {"xx", "y"};
-    size_t size = 0, needed = 0;
-    uint8_t status = pest_meta_prepare(rules, length, prepared, sizeof prepared, &size);
-    printf("prepare: status %d, length %zu\n", status, size);
-    for (int i = 0; i < 2; i++) {
-        status = pest_meta_match_prepared(prepared, size, (const uint8_t *)rule, strlen(rule), (const uint8_t *)texts[i],
-                                          strlen(texts[i]), UINT64_MAX, numbers, 64, &needed);
-        show_numbers("match_prepared", status, needed);
-    }
-    status = pest_meta_match_prepared(prepared, size - 1, (const uint8_t *)rule, strlen(rule), (const uint8_t *)"xx", 2,
-                                      UINT64_MAX, numbers, 64, &needed);
-    show_numbers("match_prepared by no rules", status, needed);
-}
-
 /* A grammar that is compiled once, and run: what a program keeps in a file or as a constant is `block`. */
 static void run_block(const uint8_t *grammar, size_t grammar_len)
 {
@@ -86,55 +56,53 @@ static void run_block(const uint8_t *grammar, size_t grammar_len)
     uint8_t status = pest_meta_compile(grammar, grammar_len, &block);
 
     printf("compile: status %d, begins with %.4s\n", status, (const char *)block.at);
+    for (uint32_t rule = 0; rule <= pest_meta_rule_count(block.at, block.count); rule++) {
+        size_t needed = 0;
+        uint8_t told = pest_meta_rule_name(block.at, block.count, rule, out, sizeof out, &needed);
+        show("rule_name", told, needed);
+    }
     for (int i = 0; i < 2; i++) {
         const uint8_t *text = (const uint8_t *)texts[i];
         size_t length = strlen(texts[i]), end = 0;
-        pest_meta_node_list nodes = {PEST_META_EMPTY, 0}, guided = {PEST_META_EMPTY, 0};
+        pest_meta_node_list nodes = {PEST_META_EMPTY, 0};
         pest_meta_row_list rows = {PEST_META_EMPTY, 0}, others = {PEST_META_EMPTY, 0};
         pest_meta_path_list calls = {PEST_META_EMPTY, 0};
-        status = pest_meta_run(block.at, block.count, 0, text, length, 0, UINT64_MAX, &nodes, &end);
+        status = pest_meta_run(block.at, block.count, 0, text, length, 0, PEST_META_NO_LIMIT, &nodes, &end);
         printf("run: status %d, end %zu\n", status, end);
         for (size_t at = 0; at < nodes.count; at++) {
             const pest_meta_node *node = &nodes.at[at];
             printf("  rule %u from %u to %u, next %u\n", (unsigned)node->row, (unsigned)node->start,
                    (unsigned)node->end, (unsigned)node->after);
         }
-        status = pest_meta_run_guided(block.at, block.count, 0, text, length, 0, 0,
-                                      pest_meta_bound(block.at, block.count, length), &guided, &end);
-        printf("run_guided: status %d, end %zu, %s nodes\n", status, end,
-               guided.count == nodes.count && !memcmp(guided.at, nodes.at, nodes.count * sizeof *nodes.at) ? "the same"
-                                                                                                       : "other");
         if (nodes.count)
-            free(nodes.at);
-        if (guided.count)
-            free(guided.at);
+            pest_meta_free(nodes.at);
         if (status != PEST_META_REFUSED)
             continue;
-        status = pest_meta_expected(block.at, block.count, 0, text, length, 0, end, UINT64_MAX, &rows);
+        status = pest_meta_expected(block.at, block.count, 0, text, length, 0, end, PEST_META_NO_LIMIT, &rows);
         printf("expected: status %d", status);
         for (size_t at = 0; at < rows.count; at++)
             printf(", rule %u", (unsigned)rows.at[at]);
         printf("\n");
         if (rows.count)
-            free(rows.at);
-        status = pest_meta_paths(block.at, block.count, 0, text, length, 0, end, UINT64_MAX, &calls);
+            pest_meta_free(rows.at);
+        status = pest_meta_paths(block.at, block.count, 0, text, length, 0, end, PEST_META_NO_LIMIT, &calls);
         printf("paths: status %d\n", status);
         for (size_t at = 0; at < calls.count; at++) {
             const pest_meta_path_call *call = &calls.at[at];
             printf("  path %zu: rule %zu, from %zu\n", call->path, call->row, call->start);
         }
         if (calls.count)
-            free(calls.at);
+            pest_meta_free(calls.at);
         rows.count = 0;
-        status = pest_meta_attempts(block.at, block.count, 0, text, length, 0, UINT64_MAX, &end, &rows, &others);
+        status = pest_meta_attempts(block.at, block.count, 0, text, length, 0, PEST_META_NO_LIMIT, &end, &rows, &others);
         printf("attempts: status %d, place %zu, %zu expected, %zu not\n", status, end, rows.count, others.count);
         if (rows.count)
-            free(rows.at);
+            pest_meta_free(rows.at);
         if (others.count)
-            free(others.at);
+            pest_meta_free(others.at);
     }
     if (block.count)
-        free(block.at);
+        pest_meta_free(block.at);
 }
 
 /* What is no grammar, and bytes that are no block, are told by a status. */
@@ -154,11 +122,15 @@ static void run_no_block(const uint8_t *wrong, const uint8_t *prepared, size_t p
     out[block.count - 1] ^= 1;
     status = pest_meta_check(out, block.count);
     printf("check of a changed block: status %d\n", status);
-    status = pest_meta_run(block.at, block.count, 7, wrong, 0, 0, UINT64_MAX, &nodes, &end);
+    status = pest_meta_run(block.at, block.count, 7, wrong, 0, 0, PEST_META_NO_LIMIT, &nodes, &end);
     printf("run by an unknown rule: status %d\n", status);
-    status = pest_meta_run(block.at + 1, block.count - 1, 0, wrong, 0, 0, UINT64_MAX, &nodes, &end);
+    status = pest_meta_run(block.at, block.count, 0, (const uint8_t *)"xx", 2, 0, 0, &nodes, &end);
+    printf("run in no step: status %d\n", status);
+    status = pest_meta_run(block.at, block.count, 0, (const uint8_t *)"\xff", 1, 0, PEST_META_NO_LIMIT, &nodes, &end);
+    printf("run of no text: status %d\n", status);
+    status = pest_meta_run(block.at + 1, block.count - 1, 0, wrong, 0, 0, PEST_META_NO_LIMIT, &nodes, &end);
     printf("run of no block: status %d\n", status);
-    free(block.at);
+    pest_meta_free(block.at);
 }
 
 int main(void)
@@ -217,20 +189,11 @@ int main(void)
     show("version without room", status, needed);
     status = pest_meta_names(NULL, 0, out, sizeof out, &needed);
     show("names of an empty text", status, needed);
-    run("match", "a", "x!", UINT64_MAX, 64);
-    run("match of a text that fails", "a", "y", UINT64_MAX, 64);
-    run("match by an unknown rule", "c", "x", UINT64_MAX, 64);
-    run("match in no step", "a", "x!", 0, 64);
-    run("match with too little room", "a", "x!", UINT64_MAX, 12);
-    status = pest_meta_match(text, length, text, length, text, length, UINT64_MAX, numbers, 64, &needed);
-    show_numbers("match by no rules", status, needed);
-    status = pest_meta_match(rules, strlen((const char *)rules), bytes, 1, text, length, UINT64_MAX, numbers, 64, &needed);
-    show_numbers("match of no text", status, needed);
-    run_prepared(list, strlen((const char *)list), "a");
     status = pest_meta_prepare(rules, strlen((const char *)rules), out, sizeof out, &needed);
     show("prepare of rules that are not optimized", status, needed);
     run_block(numbered, strlen((const char *)numbered));
     status = pest_meta_prepare(list, strlen((const char *)list), out, sizeof out, &needed);
+    printf("prepare: status %d, length %zu\n", status, needed);
     run_no_block(wrong, out, needed);
     status = pest_meta_diagnostics(warned, strlen((const char *)warned), out, sizeof out, &needed);
     show_lines("diagnostics", status, needed);

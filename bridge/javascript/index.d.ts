@@ -97,7 +97,7 @@ export interface Call {
 }
 
 export interface Limit {
-  /** The steps that a run may take. Without a limit the library finds one that suffices, unless the grammar uses the stack. */
+  /** The steps that a run may take. Without a limit it runs until it has an answer: give one if the grammar uses the stack. */
   steps?: number | bigint;
 }
 

@@ -37,22 +37,20 @@ export class LibraryError extends Error {
 // The statuses of pest_meta.h.
 const ANSWERED = 0, REFUSED = 1, MEMORY = 2, NO_ROOM = 4, NO_BLOCK = 5, UNFIT = 6;
 const OUT_OF_STEPS = 8, EMPTY_STACK = 9, LONG_TEXT = 10, OTHER_VERSION = 11, CHANGED = 12;
-const FORMAT = 1, MOST_STEPS = 2n ** 64n - 1n;
+const FORMAT = 1, NO_LIMIT = 2n ** 64n - 1n;
 const FLAWS = {
   [NO_BLOCK]: "the bytes are no compiled grammar",
   [OTHER_VERSION]: "the grammar was compiled by another version: compile it again",
   [CHANGED]: "the bytes are those of a compiled grammar, changed",
 };
-// The steps for each byte of a text, and how many more, where no limit is given: those after which a guided run is
-// quicker, those in which expected rules are looked for, and those of a run that uses the stack.
-const FIRST_STEPS = [32n, 16_384n], ERROR_STEPS = [32n, 2_000_000n], STACK_STEPS = [1_000n, 1_000_000n];
-const stepsFor = (source, [perByte, more]) => perByte * BigInt(source.length) + more;
+/** The steps in which expected rules are looked for, if no limit is given. */
+const errorSteps = (source) => 32n * BigInt(source.length) + 2n ** 23n;
 
 /** A limit of steps as a number of 64 bits. 2^64 - 1 is none. */
 function limitOf(steps) {
   const limit = BigInt(steps);
   if (limit < 0n) throw new RangeError("a limit of steps is not negative");
-  return limit < MOST_STEPS ? limit : MOST_STEPS;
+  return limit < NO_LIMIT ? limit : NO_LIMIT;
 }
 
 const encoder = new TextEncoder(), decoder = new TextDecoder("utf-8", { ignoreBOM: true });
@@ -327,9 +325,9 @@ export class Matcher {
   parse(rule, text, { steps } = {}) {
     const source = encode(text), row = this.#row(rule), places = new Places(source);
     const limit = steps === undefined ? undefined : limitOf(steps);
-    const { status, end, nodes } = this.#use((it) => this.#run(it, row, source, limit));
+    const { status, end, nodes } = this.#use((it) => this.#run(it, row, source, limit ?? NO_LIMIT));
     if (status === REFUSED) throw this.#failure(row, source, end, limit);
-    if (status !== ANSWERED) throw stop(status, rule, limit ?? stepsFor(source, STACK_STEPS));
+    if (status !== ANSWERED) throw stop(status, rule, limit ?? NO_LIMIT);
     const match = new Nodes(new Uint32Array(nodes.buffer), places, text, [...this.names, "EOI"]);
     return { end: places.index(end), trees: match.trees(0, match.count) };
   }
@@ -338,7 +336,7 @@ export class Matcher {
   paths(rule, text, position, { steps } = {}) {
     const source = encode(text), row = this.#row(rule), places = new Places(source);
     const place = encoder.encode(text.slice(0, position)).length;
-    const limit = steps === undefined ? stepsFor(source, ERROR_STEPS) : limitOf(steps);
+    const limit = steps === undefined ? errorSteps(source) : limitOf(steps);
     const [status, numbers] = this.#use((it) => {
       const calls = it.list();
       const status = it.status("pest_meta_paths", ...this.#words(it, row, source), BigInt(place), limit, calls);
@@ -366,21 +364,13 @@ export class Matcher {
 
   #run(it, row, source, limit) {
     const words = this.#words(it, row, source), nodes = it.list(), end = it.take(8);
-    let status = OUT_OF_STEPS;
-    if (limit === undefined) {
-      const turns = BigInt.asUintN(64, it.calls.pest_meta_bound(words[0], words[1], BigInt(source.length)));
-      const first = stepsFor(source, FIRST_STEPS);
-      status = it.status("pest_meta_run_guided", ...words, first, turns, nodes, end);
-    }
-    if (status === OUT_OF_STEPS) {
-      status = it.status("pest_meta_run", ...words, limit ?? stepsFor(source, STACK_STEPS), nodes, end);
-    }
+    const status = it.status("pest_meta_run", ...words, limit, nodes, end);
     return { status, end: Number(it.words(end, 1)[0]), nodes: it.handed(nodes, 16) };
   }
 
   /** The error of a run that fails at a byte, with the rules that are expected there, sorted by name. */
   #failure(row, source, place, limit) {
-    const most = limit ?? stepsFor(source, ERROR_STEPS), places = new Places(source);
+    const most = limit ?? errorSteps(source), places = new Places(source);
     const [status, rows] = this.#use((it) => {
       const list = it.list();
       const status = it.status("pest_meta_expected", ...this.#words(it, row, source), BigInt(place), most, list);

@@ -70,11 +70,7 @@ _LIBRARY = {"win32": "pest_meta_c.dll", "darwin": "libpest_meta_c.dylib"}.get(sy
 _FORMAT = 1
 _ANSWERED, _REFUSED, _MEMORY, _NO_TEXT, _NO_ROOM = range(5)
 _NO_BLOCK, _UNFIT, _NO_RULE, _OUT_OF_STEPS, _EMPTY_STACK, _LONG_TEXT, _OTHER_VERSION, _CHANGED = range(5, 13)
-_MOST_STEPS = 2**64 - 1
-# The steps for each byte of a text, and how many more, where no limit is given: those after which a guided run is
-# quicker (a run then begins to remember calls, and a step may copy all nodes of one), and those in which expected rules
-# are looked for.
-_FIRST_STEPS, _ERROR_STEPS = (32, 16_384), (32, 2**23)
+_NO_LIMIT = 2**64 - 1
 # How many operands the nodes of a form have (docs/FORMAT.md).
 _OPERANDS = {
     **dict.fromkeys(["str", "insens", "range", "ident", "peek_slice", "skip", "push_literal"], 0),
@@ -499,10 +495,9 @@ class Matcher:
     def parse(self, rule: str, text: str, steps: Optional[int] = None) -> Match:
         """Matches a text by the rule of a name, from the text's start on.
 
-        A grammar that does not use the stack needs no limit: where a match takes many steps, a guided run takes
-        its place, in as many turns as suffice for any text of that length (docs/SPEC.md). A turn that searches a text
-        may take many bytes, and memory grows with the turns. A match that uses the stack may take exponential time, as
-        in pest: give `steps` if the text comes from a stranger.
+        A grammar that does not use the stack needs no limit: its matches take time that is linear in the text and
+        the trees. A match that uses the stack may take exponential time, as in pest: give `steps` if the text comes
+        from a stranger.
 
         With `steps` the match takes at most that many steps, and so does the search for the rules that are expected
         where it fails. With None the match has no limit, and the search 2**23 steps and 32 more for each byte. A limit
@@ -514,21 +509,16 @@ class Matcher:
         """
         source = _encoded(text)
         words = self._words(rule, source)
-        most = _steps_for(source, _ERROR_STEPS) if steps is None else steps
         nodes, end = _List(), ctypes.c_size_t()
-        found = ctypes.byref(nodes), ctypes.byref(end)
-        status = _OUT_OF_STEPS
-        if steps is None:
-            turns = _library().pest_meta_bound(*words[:2], len(source))
-            status = _library().pest_meta_run_guided(*words, _steps_for(source, _FIRST_STEPS), turns, *found)
-        if status == _OUT_OF_STEPS:
-            status = _library().pest_meta_run(*words, _MOST_STEPS if steps is None else steps, *found)
+        limit = _NO_LIMIT if steps is None else steps
+        status = _library().pest_meta_run(*words, limit, ctypes.byref(nodes), ctypes.byref(end))
         if status == _ANSWERED:
             trees = _Nodes(_taken(nodes, 16), source, self._all_names)
             return Match(end.value, trees.trees(0, len(trees.numbers) // 4))
         if status == _REFUSED:
+            most = _error_steps(source) if steps is None else steps
             raise self._failure(words, end.value, most, steps is None)
-        raise _stop(status, "pest_meta_run", rule, most)
+        raise _stop(status, "pest_meta_run", rule, limit)
 
     def paths(self, rule: str, text: str, position: int, steps: Optional[int] = None) -> List[List[Tuple[str, int]]]:
         """Where in the grammar the rules of a MatchError at a position, in bytes, are expected.
@@ -537,7 +527,7 @@ class Matcher:
         Raises as parse does, but a rule that fails has an answer; MemoryError where there are more than 1,024 paths.
         """
         source, calls = _encoded(text), _List()
-        steps = _steps_for(source, _ERROR_STEPS) if steps is None else steps
+        steps = _error_steps(source) if steps is None else steps
         status = _library().pest_meta_paths(*self._words(rule, source), position, steps, ctypes.byref(calls))
         if status != _ANSWERED:
             raise _stop(status, "pest_meta_paths", rule, steps)
@@ -577,10 +567,9 @@ def _encoded(text: str) -> bytes:
     return text.encode()
 
 
-def _steps_for(source: bytes, steps: Tuple[int, int]) -> int:
-    """So many steps for each byte of a text, and so many more."""
-    per_byte, more = steps
-    return min(per_byte * len(source) + more, _MOST_STEPS)
+def _error_steps(source: bytes) -> int:
+    """The steps in which expected rules are looked for, if no limit is given."""
+    return 32 * len(source) + 2**23
 
 
 def compile(grammar: str) -> bytes:
@@ -619,21 +608,20 @@ _FLAWS = {
 }
 
 
-# Bytes before the sections of a block: what it is, its version, and its sum.
-_HEAD_BYTES = 16
-
-
 def _names(block: bytes) -> Iterator[str]:
     """The names of the rules of a block."""
-    names = _section(block[_HEAD_BYTES:], 2)
-    count = int.from_bytes(names[:4], "little") // 4 - 1
-    return (_section(names, number).decode() for number in range(count))
+    count = _library().pest_meta_rule_count(block, len(block))
+    return (_name(block, row) for row in range(count))
 
 
-def _section(part: bytes, number: int) -> bytes:
-    """A section of a part of a block."""
-    start, end = (int.from_bytes(part[at : at + 4], "little") for at in (4 * number, 4 * number + 4))
-    return part[start:end]
+def _name(block: bytes, row: int) -> str:
+    """The name of a rule of a block."""
+    size = ctypes.c_size_t(64)
+    status = _NO_ROOM
+    while status == _NO_ROOM:
+        room = ctypes.create_string_buffer(size.value)
+        status = _library().pest_meta_rule_name(block, len(block), row, room, len(room), ctypes.byref(size))
+    return room.raw[: size.value].decode()
 
 
 class _List(ctypes.Structure):
@@ -654,7 +642,7 @@ def _taken(found: _List, size: int) -> bytes:
     if not found.count:
         return b""
     taken = ctypes.string_at(found.at, found.count * size)
-    _library().free(found.at)
+    _library().pest_meta_free(found.at)
     return taken
 
 
@@ -838,18 +826,15 @@ def _declare_runs(library: Any) -> None:
     rule, place = ctypes.c_uint32, ctypes.c_size_t
     run = [*text, rule, *text, place]
     library.pest_meta_compile.argtypes = [*text, found]
-    library.pest_meta_check.argtypes = text
+    library.pest_meta_check.argtypes = library.pest_meta_rule_count.argtypes = text
+    library.pest_meta_rule_count.restype = place
+    library.pest_meta_rule_name.argtypes = [*text, rule, *text, ctypes.POINTER(place)]
     library.pest_meta_run.argtypes = [*run, ctypes.c_uint64, found, ctypes.POINTER(ctypes.c_size_t)]
-    library.pest_meta_run_guided.argtypes = [*run, ctypes.c_uint64, *library.pest_meta_run.argtypes[-3:]]
-    library.pest_meta_bound.argtypes = [*text, place]
-    library.pest_meta_bound.restype = ctypes.c_uint64
     library.pest_meta_expected.argtypes = [*run, place, ctypes.c_uint64, found]
     library.pest_meta_paths.argtypes = [*run, place, ctypes.c_uint64, found]
-    for name in ("compile", "check", "run", "run_guided", "expected", "paths"):
+    for name in ("compile", "check", "rule_name", "run", "expected", "paths"):
         getattr(library, f"pest_meta_{name}").restype = ctypes.c_uint8
-    # What the library hands out is freed by the C library. On Windows each DLL may have one of its own.
-    library.free = library.pest_meta_free if sys.platform == "win32" else ctypes.CDLL(None).free
-    library.free.argtypes, library.free.restype = [ctypes.c_void_p], None
+    library.pest_meta_free.argtypes, library.pest_meta_free.restype = [ctypes.c_void_p], None
 
 
 _loaded: Any = None

@@ -125,7 +125,17 @@ static void write_rows(const char *name, unsigned status, pest_meta_row_list row
     give_back(rows.at, rows.count);
 }
 
-/* Runs a rule on a text, with a limit of steps. */
+/* Writes the nodes of a rule on a text. */
+static void run_until(bytes block, uint32_t row, bytes text, size_t from, uint64_t steps)
+{
+    pest_meta_node_list nodes = {PEST_META_EMPTY, 0};
+    size_t end = 0;
+    unsigned status = pest_meta_run(block.at, block.count, row, text.at, text.count, from, steps, &nodes, &end);
+    write_answer("run_until", status, nodes.at, 16 * nodes.count);
+    give_back(nodes.at, nodes.count);
+}
+
+/* Runs a rule on a text in so many steps, without a limit, and in few steps, and asks what is expected if it fails. */
 static void run_text(bytes block, uint32_t row, bytes text, size_t from, uint64_t steps)
 {
     pest_meta_node_list nodes = {PEST_META_EMPTY, 0};
@@ -136,13 +146,10 @@ static void run_text(bytes block, uint32_t row, bytes text, size_t from, uint64_
     uint64_t told[1] = {end};
     write_answer("end", status, told, 8);
 
-    told[0] = pest_meta_bound(block.at, block.count, text.count);
-    write_answer("bound", 0, told, 8);
-    pest_meta_node_list guided = {PEST_META_EMPTY, 0};
-    uint64_t turns = told[0] < 100000 ? told[0] : 100000;
-    status = pest_meta_run_guided(block.at, block.count, row, text.at, text.count, from, 16, turns, &guided, &end);
-    write_answer("run_guided", status, guided.at, 16 * guided.count);
-    give_back(guided.at, guided.count);
+    /* Within the steps it has an answer, so it has one without a limit. */
+    if (status <= 1)
+        run_until(block, row, text, from, UINT64_MAX);
+    run_until(block, row, text, from, 16);
     if (status != 1)
         return;
 
@@ -161,6 +168,20 @@ static void run_text(bytes block, uint32_t row, bytes text, size_t from, uint64_
     write_rows("negatives", status, no);
 }
 
+/* Writes the names of the rules of a block. */
+static void ask_names(bytes block)
+{
+    uint64_t told[1] = {pest_meta_rule_count(block.at, block.count)};
+    write_answer("rule_count", 0, told, 8);
+    uint64_t count = told[0] < 100 ? told[0] : 100;
+    for (uint32_t rule = 0; rule <= count; rule++) {
+        static uint8_t name[4096];
+        size_t needed = 0;
+        unsigned status = pest_meta_rule_name(block.at, block.count, rule, name, sizeof name, &needed);
+        write_answer("rule_name", status, name, status ? 0 : needed);
+    }
+}
+
 /* Asks about a block, changed and cut, and about the texts behind it in the file. */
 static void ask_block(bytes whole)
 {
@@ -170,6 +191,9 @@ static void ask_block(bytes whole)
     if (whole.count)
         changed[whole.count * 2 / 3] ^= 1;
     write_answer("check", pest_meta_check(changed, whole.count), "", 0);
+    ask_names(whole);
+    ask_names(other);
+    ask_names(part);
     for (uint32_t left = read_word(); left; left--) {
         text_number++;
         uint32_t row = read_word(), from = read_word();

@@ -112,6 +112,11 @@ function askRules(grammar) {
   if (rules.length) askHanded("compile_prepared", ask("prepare", ask("optimize", rules)));
 }
 
+function runUntil(run, steps) {
+  const status = calls.pest_meta_run(...run, steps, list(0), slots + 56n) & 255;
+  writeAnswer("run_until", status, handed(0, 16));
+}
+
 function runText(block, row, text, from, steps) {
   const run = [...block, row, ...text, BigInt(from)], end = slots + 48n;
   words(end, 1)[0] = 0n;
@@ -119,10 +124,9 @@ function runText(block, row, text, from, steps) {
   writeAnswer("run", status, handed(0, 16));
   writeAnswer("end", status, eight(words(end, 1)[0]));
 
-  const bound = BigInt.asUintN(64, calls.pest_meta_bound(...block, text[1]));
-  writeAnswer("bound", 0, eight(bound));
-  status = calls.pest_meta_run_guided(...run, 16n, bound < 100000n ? bound : 100000n, list(0), end) & 255;
-  writeAnswer("run_guided", status, handed(0, 16));
+  // Within the steps it has an answer, so it has one without a limit.
+  if (status <= 1) runUntil(run, 2n ** 64n - 1n);
+  runUntil(run, 16n);
   if (status !== 1) return;
 
   const place = words(end, 1)[0];
@@ -136,6 +140,17 @@ function runText(block, row, text, from, steps) {
   writeAnswer("negatives", status, handed(2, 4));
 }
 
+function askNames(block) {
+  const count = calls.pest_meta_rule_count(...block), room = take(4096), needed = slots + 48n;
+  writeAnswer("rule_count", 0, eight(BigInt.asUintN(64, count)));
+  const last = BigInt.asUintN(64, count) < 100n ? count : 100n;
+  for (let rule = 0n; rule <= last; rule++) {
+    const status = calls.pest_meta_rule_name(...block, Number(rule), room, 4096n, needed) & 255;
+    writeAnswer("rule_name", status, status ? new Uint8Array(0) : copy(room, Number(words(needed, 1)[0])));
+  }
+  free(room);
+}
+
 function askGrammar(grammar) {
   textNumber = 0;
   for (const name of ["diagnostics", "names", "rust_keyword", "nodes", "parse_and_optimize", "grammar"]) ask(name, grammar);
@@ -147,6 +162,7 @@ function askGrammar(grammar) {
   writeAnswer("check", calls.pest_meta_check(...whole) & 255, new Uint8Array(0));
   if (block.length) bytes(other[0], block.length)[Math.floor((block.length * 2) / 3)] ^= 1;
   writeAnswer("check", calls.pest_meta_check(...other) & 255, new Uint8Array(0));
+  for (const it of [whole, other, [whole[0], whole[1] / 2n]]) askNames(it);
   for (let left = readWord(); left; left--) {
     textNumber++;
     const row = readWord(), from = readWord(), text = give(readBytes());

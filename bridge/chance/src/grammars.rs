@@ -39,7 +39,7 @@ fn expr(numbers: &mut Numbers, depth: usize, uses_stack: bool) -> String {
     if depth == 0 || numbers.below(4) == 0 {
         return terminal(numbers, uses_stack);
     }
-    let mut inner = |numbers: &mut Numbers| expr(numbers, depth - 1, uses_stack);
+    let inner = |numbers: &mut Numbers| expr(numbers, depth - 1, uses_stack);
     match numbers.below(12) {
         0..=2 => format!("({} ~ {})", inner(numbers), inner(numbers)),
         3..=5 => format!("({} | {})", inner(numbers), inner(numbers)),

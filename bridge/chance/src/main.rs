@@ -14,6 +14,8 @@ use grammars::{grammar, text, Numbers, RULES};
 const TEXTS: usize = 12;
 /// The original calls itself in rules, which takes stack by its calls.
 const CALLS: usize = 20_000;
+/// So many calls, as this side counts them, are more than the original makes.
+const CALLS_HERE: usize = 5 * CALLS;
 const STACK: usize = 1 << 30;
 
 /// What was compared.
@@ -88,7 +90,8 @@ fn our_answer(vm: &here_vm::Vm, rule: &str, text: &str) -> Option<Answer> {
         Ok(pairs) => Some(Ok(format!("{pairs:#}"))),
         Err(error) => {
             let told = error.to_string();
-            let is_stopped = ["too many steps", "on the empty stack"].iter().any(|end| told.ends_with(end));
+            let is_stopped =
+                ["call limit reached", "on the empty stack"].iter().any(|end| told.ends_with(end));
             (!is_stopped).then_some(Err(told))
         }
     }
@@ -101,6 +104,7 @@ fn tell(counts: &mut Counts, grammar: &str, what: &str) {
 
 fn run(count: usize, seed: u64) -> Counts {
     pest::set_call_limit(NonZeroUsize::new(CALLS));
+    here_vm::runtime::set_call_limit(NonZeroUsize::new(CALLS_HERE));
     panic::set_hook(Box::new(|_| {}));
     let (mut numbers, mut counts) = (Numbers(seed), Counts::default());
     while counts.taken < count {

@@ -1,31 +1,6 @@
 //! The answers of parsers on texts that are put together from pieces.
+use compare::{text_of, Numbers, TEXTS};
 use original::{Answer, Failure};
-
-/// How many texts each grammar gets.
-const TEXTS: usize = 2000;
-
-/// Numbers that look as if they came by chance: a linear congruential generator.
-struct Numbers(u64);
-
-impl Numbers {
-    fn below(&mut self, end: usize) -> usize {
-        self.0 = self.0.wrapping_mul(6364136223846793005).wrapping_add(1442695040888963407);
-        (self.0 >> 33) as usize % end
-    }
-}
-
-/// A text of the pieces: mostly pieces by chance, and sometimes a sample with a piece in it.
-fn text_of(numbers: &mut Numbers, pieces: &[&str], samples: &[&str]) -> String {
-    if numbers.below(3) > 0 {
-        return (0..numbers.below(12)).map(|_| pieces[numbers.below(pieces.len())]).collect();
-    }
-    let mut text = samples[numbers.below(samples.len())].to_owned();
-    let at = numbers.below(text.len() + 1);
-    if text.is_char_boundary(at) {
-        text.insert_str(at, pieces[numbers.below(pieces.len())]);
-    }
-    text
-}
 
 /// How many failures agree, and which do not.
 #[derive(Debug, Default)]
@@ -44,6 +19,7 @@ impl Agreement {
             positives: here.positives,
             negatives: here.negatives,
             printed: here.printed,
+            detail: here.detail,
         };
         self.failed += 1;
         if here != original {
@@ -52,26 +28,12 @@ impl Agreement {
     }
 }
 
-/// A sample whose end is cut off, and sometimes a piece in its place.
-fn cut_text_of(numbers: &mut Numbers, pieces: &[&str], samples: &[&str]) -> String {
-    let sample = samples[numbers.below(samples.len())];
-    let mut text: String = sample.chars().take(numbers.below(sample.len() + 1)).collect();
-    if numbers.below(2) == 0 {
-        text += pieces[numbers.below(pieces.len())];
-    }
-    text
-}
-
 #[test]
 fn parsers_answer_the_same() {
     for (here, original) in here::GRAMMARS.iter().zip(&original::GRAMMARS) {
         let (mut numbers, mut agreement) = (Numbers(1), Agreement::default());
         for number in 0..TEXTS {
-            let text = match original.samples.get(number) {
-                Some(sample) => (*sample).to_owned(),
-                None if number % 3 == 0 => cut_text_of(&mut numbers, original.pieces, original.samples),
-                None => text_of(&mut numbers, original.pieces, original.samples),
-            };
+            let text = text_of(&mut numbers, number, original.pieces, original.samples);
             match ((here.parse)(&text), (original.parse)(&text)) {
                 (here::Answer::Pairs(here), Answer::Pairs(original)) => {
                     assert_eq!(here, original, "{text:?}");

@@ -54,24 +54,20 @@ pub fn compile_rules(rules: &[u8]) -> Result<Vec<u8>, Uncompiled> {
     }
 }
 
-/// The steps after which a guided run is quicker: 32 a byte, and 16,384 more. Nearly all texts take fewer. Then [`run`]
-/// begins to remember calls, and a step may copy all nodes of one.
-pub fn first_steps(text: &str) -> u64 {
-    steps_by_length(text, 32, 16_384)
-}
+/// The steps of a run without a limit of its caller.
+pub const NO_LIMIT: u64 = u64::MAX;
 
 /// The most steps in which the rules of an error are looked for, if its caller names no limit: 2^23, and 32 more for each
 /// byte.
 pub fn error_steps(text: &str) -> u64 {
-    steps_by_length(text, 32, 1 << 23)
+    (text.len() as u64).saturating_mul(32).saturating_add(1 << 23)
 }
 
-/// So many steps for each byte of a text, and so many more.
-fn steps_by_length(text: &str, per_byte: u64, more: u64) -> u64 {
-    (text.len() as u64).saturating_mul(per_byte).saturating_add(more)
-}
-
-/// Runs the rule of a row from the start of a text, in so many steps at most.
+/// Runs the rule of a row from the start of a text.
+///
+/// By [`NO_LIMIT`] the rule runs until it has an outcome. If it uses no stack, its time is linear in the text and the nodes.
+/// A rule that uses the stack, as by `PUSH` and `PEEK`, may take exponential time. By another number of steps, the rule is
+/// stopped after so many.
 ///
 /// # Errors
 /// The rule fails, or is stopped, or there is none.
@@ -80,37 +76,7 @@ fn steps_by_length(text: &str, per_byte: u64, more: u64) -> u64 {
 /// Where the library has no memory.
 pub fn run(block: &[u8], row: u32, text: &str, steps: u64) -> Result<Nodes, Unmatched> {
     let (mut nodes, mut end) = (Given::new(), 0);
-    let status = foreign::run(block, row, text, steps, &mut nodes, &mut end);
-    answer(status, nodes, end)
-}
-
-/// Runs the rule of a row from the start of a text by a guided run, for a rule that [`run`] gives up: a run without trees
-/// looks in at most so many turns whether the rule matches, and one of at most as many operations makes the trees.
-///
-/// [`bound`] turns suffice for the first; it is given up where it comes to an operation on the stack, as `PUSH` and `PEEK`
-/// are. No number of operations is proved to suffice for the second; in measures that of the turns did. A turn that
-/// searches, as one of `(!"x" ~ ANY)*`, may take many bytes. The memory of such a run grows with its turns.
-///
-/// # Errors
-/// The rule fails, or is stopped, or there is none.
-///
-/// # Panics
-/// Where the library has no memory.
-pub fn run_guided(block: &[u8], row: u32, text: &str, turns: u64) -> Result<Nodes, Unmatched> {
-    let (mut nodes, mut end) = (Given::new(), 0);
-    let status = foreign::run_guided(block, row, text, 0, turns, &mut nodes, &mut end);
-    answer(status, nodes, end)
-}
-
-/// How many turns suffice for [`run_guided`] on a text of so many bytes: one more than `3 * L * (L * (bytes + 4) + 1)`,
-/// where the block has `L` operations.
-pub fn bound(block: &[u8], bytes: usize) -> u64 {
-    foreign::bound(block, bytes)
-}
-
-/// What a status says of a run.
-fn answer(status: u8, nodes: Nodes, end: usize) -> Result<Nodes, Unmatched> {
-    match status {
+    match foreign::run(block, row, text, steps, &mut nodes, &mut end) {
         0 => Ok(nodes),
         1 => Err(Unmatched::Failed { pos: end }),
         5 | 11 => Err(Unmatched::NoBlock),

@@ -2,7 +2,7 @@
 //!
 //! A function is handed texts and room for its answer, as a pointer and a length each, and keeps none of
 //! them. It answers a status, and leaves in `needed` how many bytes it wrote or, where the room was too
-//! small, wants to write. The calls over blocks hand out memory of their own, which `free` of the C library frees.
+//! small, wants to write. The calls over blocks hand out memory of their own, which `pest_meta_free` frees.
 use alloc::boxed::Box;
 use alloc::vec::Vec;
 use core::ffi::c_void;
@@ -73,14 +73,14 @@ impl<T> Drop for Given<T> {
             // SAFETY: `from` took the pointer and the length from a box, and this is its one owner.
             drop(unsafe { Box::from_raw(ptr::slice_from_raw_parts_mut(at.cast_mut(), count)) });
         } else if count > 0 {
-            // SAFETY: a list of the library that is not empty is a block of `malloc`, and this is its one owner.
-            unsafe { free(at as *mut c_void) }
+            // SAFETY: a list of the library that is not empty is memory of its own, and this is its one owner.
+            unsafe { pest_meta_free(at as *mut c_void) }
         }
     }
 }
 
 extern "C" {
-    fn free(at: *mut c_void);
+    fn pest_meta_free(at: *mut c_void);
     fn pest_meta_tokens(
         text: *const u8,
         text_len: usize,
@@ -125,13 +125,6 @@ extern "C" {
         room: usize,
         needed: *mut usize,
     ) -> u8;
-    fn pest_meta_prepare(
-        rules: *const u8,
-        rules_len: usize,
-        out: *mut u8,
-        out_len: usize,
-        needed: *mut usize,
-    ) -> u8;
     fn pest_meta_compile_prepared(rules: *const u8, rules_len: usize, block: *mut Lent<u8>) -> u8;
     fn pest_meta_run(
         block: *const u8,
@@ -144,19 +137,6 @@ extern "C" {
         nodes: *mut Lent<Node>,
         end: *mut usize,
     ) -> u8;
-    fn pest_meta_run_guided(
-        block: *const u8,
-        block_len: usize,
-        rule: u32,
-        text: *const u8,
-        text_len: usize,
-        from: usize,
-        steps: u64,
-        turns: u64,
-        nodes: *mut Lent<Node>,
-        end: *mut usize,
-    ) -> u8;
-    fn pest_meta_bound(block: *const u8, block_len: usize, bytes: usize) -> u64;
     fn pest_meta_expected(
         block: *const u8,
         block_len: usize,
@@ -237,12 +217,6 @@ pub fn token_numbers(text: &str, rule: &str, out: &mut [usize], needed: &mut usi
     }
 }
 
-/// Optimized rules in binary form, of those in JSON.
-pub fn prepare(rules: &str, out: &mut [u8], needed: &mut usize) -> u8 {
-    // SAFETY: as above.
-    unsafe { pest_meta_prepare(rules.as_ptr(), rules.len(), out.as_mut_ptr(), out.len(), needed) }
-}
-
 /// The block of optimized rules in binary form.
 pub fn compile_prepared(rules: &[u8], block: &mut Given<u8>) -> u8 {
     *block = Given::new();
@@ -268,40 +242,6 @@ pub fn run(block: &[u8], rule: u32, text: &str, steps: u64, nodes: &mut Given<No
             end,
         )
     }
-}
-
-/// Runs the rule of a row as [`run`], and where that is out of steps, by a guided run in at most so many turns.
-pub fn run_guided(
-    block: &[u8],
-    rule: u32,
-    text: &str,
-    steps: u64,
-    turns: u64,
-    nodes: &mut Given<Node>,
-    end: &mut usize,
-) -> u8 {
-    *nodes = Given::new();
-    // SAFETY: as above.
-    unsafe {
-        pest_meta_run_guided(
-            block.as_ptr(),
-            block.len(),
-            rule,
-            text.as_ptr(),
-            text.len(),
-            0,
-            steps,
-            turns,
-            &mut nodes.lent,
-            end,
-        )
-    }
-}
-
-/// How many turns suffice for [`run_guided`] on a text of so many bytes.
-pub fn bound(block: &[u8], bytes: usize) -> u64 {
-    // SAFETY: as above.
-    unsafe { pest_meta_bound(block.as_ptr(), block.len(), bytes) }
 }
 
 /// The rows of the rules that are expected at a position, where a rule is run as by [`run`].

@@ -60,24 +60,12 @@ pub fn token_numbers(_: &str, _: &str, _: &mut [usize], _: &mut usize) -> u8 {
     refused()
 }
 
-pub fn prepare(_: &str, _: &mut [u8], _: &mut usize) -> u8 {
-    refused()
-}
-
 pub fn compile_prepared(_: &[u8], _: &mut Given<u8>) -> u8 {
     refused()
 }
 
 pub fn run(_: &[u8], _: u32, _: &str, _: u64, _: &mut Given<Node>, _: &mut usize) -> u8 {
     refused()
-}
-
-pub fn run_guided(_: &[u8], _: u32, _: &str, _: u64, _: u64, _: &mut Given<Node>, _: &mut usize) -> u8 {
-    refused()
-}
-
-pub fn bound(_: &[u8], _: usize) -> u64 {
-    refused().into()
 }
 
 pub fn expected(_: &[u8], _: u32, _: &str, _: usize, _: u64, _: &mut Given<u32>) -> u8 {

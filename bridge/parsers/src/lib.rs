@@ -8,7 +8,7 @@ pub mod hostile;
 pub mod places;
 pub mod probes;
 
-use pest::error::{ErrorVariant, InputLocation, LineColLocation};
+use pest::error::{Error, ErrorVariant, InputLocation, IsWhitespaceFn, LineColLocation, RuleToMessageFn};
 use pest::iterators::Pairs;
 use pest::{Parser, RuleType, Token};
 
@@ -29,6 +29,8 @@ pub struct Failure {
     pub positives: Vec<String>,
     pub negatives: Vec<String>,
     pub printed: String,
+    /// What was tried, if errors are to tell it.
+    pub detail: Vec<String>,
 }
 
 /// A grammar, and texts to be parsed by it.
@@ -46,7 +48,7 @@ fn answer<R: RuleType, P: Parser<R>>(rule: R, text: &str) -> Answer {
         Ok(pairs) => return Answer::Pairs(walked(pairs)),
         Err(error) => error,
     };
-    let printed = error.to_string();
+    let (printed, detail) = (error.to_string(), detail_of(&error, text));
     let (InputLocation::Pos(pos), LineColLocation::Pos(line_col)) = (error.location, error.line_col) else {
         panic!("a parser's error is at a position");
     };
@@ -54,10 +56,30 @@ fn answer<R: RuleType, P: Parser<R>>(rule: R, text: &str) -> Answer {
     match error.variant {
         ErrorVariant::ParsingError { positives, negatives } => {
             let (positives, negatives) = (names(positives), names(negatives));
-            Answer::Failure(Failure { pos, line_col, positives, negatives, printed })
+            Answer::Failure(Failure { pos, line_col, positives, negatives, printed, detail })
         }
         ErrorVariant::CustomError { message } => panic!("a parser's error has rules: {message}"),
     }
+}
+
+/// Has all errors tell what was tried.
+pub fn tell_in_detail() {
+    pest::set_error_detail(true);
+}
+
+/// What an error tells of what was tried.
+fn detail_of<R: RuleType>(error: &Error<R>, text: &str) -> Vec<String> {
+    let Some(attempts) = error.parse_attempts() else { return Vec::new() };
+    let message: RuleToMessageFn<R> = Box::new(|rule| Some(format!("a {rule:?}")));
+    let is_blank: IsWhitespaceFn = Box::new(|token| token.trim().is_empty());
+    let told = error.parse_attempts_error(text, &message, &is_blank);
+    vec![
+        format!("{:?}", attempts.expected_tokens()),
+        format!("{:?}", attempts.unexpected_tokens()),
+        format!("{:?}", attempts.call_stacks()),
+        attempts.max_position.to_string(),
+        told.map(|error| error.to_string()).unwrap_or_default(),
+    ]
 }
 
 /// What each call of pairs answers, and of all pairs inside.

@@ -16,10 +16,15 @@ const MANY: usize = 4;
 
 static IS_DETAILED: AtomicBool = AtomicBool::new(false);
 
-/// Sets whether parsers by hand keep what they tried, for [`Error::parse_attempts`](crate::error::Error::parse_attempts).
-/// That takes time. A parser of a grammar keeps nothing.
+/// Sets whether parsers keep what they tried, for [`Error::parse_attempts`](crate::error::Error::parse_attempts). That takes
+/// time: a parser by hand keeps it in each parse, and for a parser of a grammar its rules run once more if it fails.
 pub fn set_error_detail(enabled: bool) {
     IS_DETAILED.store(enabled, Ordering::Relaxed);
+}
+
+/// Whether parsers keep what they tried.
+pub(crate) fn is_detailed() -> bool {
+    IS_DETAILED.load(Ordering::Relaxed)
 }
 
 /// What failed at a position.
@@ -123,7 +128,7 @@ impl<R: RuleType> ParseAttempts<R> {
     /// Makes attempts that have nothing yet. They are kept as [`set_error_detail`] says at this time.
     pub fn new() -> ParseAttempts<R> {
         ParseAttempts {
-            is_enabled: IS_DETAILED.load(Ordering::Relaxed),
+            is_enabled: is_detailed(),
             call_stacks: Vec::new(),
             expected: Vec::new(),
             unexpected: Vec::new(),

@@ -16,14 +16,14 @@ use crate::{Position, RuleType, Span};
 pub struct Error<R> {
     /// What is wrong.
     pub variant: ErrorVariant<R>,
-    /// Where in the text, in bytes.
+    /// The position or the span in the text, in bytes.
     pub location: InputLocation,
-    /// Where in the text, as lines and columns.
+    /// The position or the span in the text, as lines and columns.
     pub line_col: LineColLocation,
     shown: Box<Shown<R>>,
 }
 
-/// What is printed of an error beside its place and its message. It is in a box, so that errors are small.
+/// What is printed of an error besides its position and its message. It is in a box, so that errors are small.
 #[derive(Clone, Debug, Eq, Hash, PartialEq)]
 struct Shown<R> {
     path: Option<String>,
@@ -33,10 +33,10 @@ struct Shown<R> {
     attempts: Option<ParseAttempts<R>>,
 }
 
-/// A function that says of a rule what a message is to tell of it.
+/// A function that returns the words for a rule in a message.
 pub type RuleToMessageFn<R> = Box<dyn Fn(&R) -> Option<String>>;
 
-/// A function that says whether a token is whitespace.
+/// A function that returns whether a token is whitespace.
 pub type IsWhitespaceFn = Box<dyn Fn(String) -> bool>;
 
 /// What is wrong.
@@ -51,12 +51,12 @@ pub enum ErrorVariant<R> {
     },
     /// Another error.
     CustomError {
-        /// Its message.
+        /// The message of the error.
         message: String,
     },
 }
 
-/// A place in a text, in bytes.
+/// A position or a span in a text, in bytes.
 #[derive(Clone, Debug, Eq, Hash, PartialEq)]
 pub enum InputLocation {
     /// A position.
@@ -65,7 +65,7 @@ pub enum InputLocation {
     Span((usize, usize)),
 }
 
-/// A place in a text, as lines and columns from 1.
+/// A position or a span in a text, as lines and columns from 1.
 #[derive(Clone, Debug, Eq, Hash, PartialEq)]
 pub enum LineColLocation {
     /// A position.
@@ -120,13 +120,13 @@ impl<R: RuleType> Error<R> {
         }
     }
 
-    /// Gives the error the path of a file, which is printed before the place.
+    /// Gives the error the path of a file, which is printed before the position.
     pub fn with_path(mut self, path: &str) -> Error<R> {
         self.shown.path = Some(path.to_owned());
         self
     }
 
-    /// Gives the error what a parser tried.
+    /// Adds what a parser tried to the error.
     pub(crate) fn with_attempts(mut self, attempts: ParseAttempts<R>) -> Error<R> {
         self.shown.attempts = Some(attempts);
         self
@@ -142,7 +142,7 @@ impl<R: RuleType> Error<R> {
         &self.shown.line
     }
 
-    /// Makes the error of a parser one with a message, in which rules have the names that `f` gives them.
+    /// Turns the error of a parser into one with a message. In the message, rules have the names that `f` returns.
     pub fn renamed_rules<F>(self, f: F) -> Error<R>
     where
         F: FnMut(&R) -> String,
@@ -156,17 +156,17 @@ impl<R: RuleType> Error<R> {
         Error { variant, ..self }
     }
 
-    /// Returns what a parser by hand tried at the furthest position, if
-    /// [`set_error_detail`](crate::set_error_detail) had it kept.
+    /// Returns what a parser tried at the furthest position, if [`set_error_detail`](crate::set_error_detail) had it
+    /// kept.
     pub fn parse_attempts(&self) -> Option<ParseAttempts<R>> {
         self.shown.attempts.clone()
     }
 
-    /// Returns an error of the same text that tells of what was tried: the tokens, and what a function says of the rules. There
-    /// is none where nothing was kept.
+    /// Returns an error with what was tried: the tokens, and the words that a function returns for the rules. Returns
+    /// `None` if nothing was kept.
     ///
     /// # Panics
-    /// Where the text is another one, which does not have the position.
+    /// If the text is another one, and does not have the position.
     pub fn parse_attempts_error(
         &self,
         input: &str,
@@ -268,7 +268,7 @@ fn with_visible_breaks(line: &str) -> String {
     line.replace('\r', "␍").replace('\n', "␊")
 }
 
-/// What a parser's error says.
+/// The message of a parser's error.
 fn parser_message<R>(positives: &[R], negatives: &[R], mut f: impl FnMut(&R) -> String) -> String {
     let mut names = |rules: &[R]| enumeration(rules.iter().map(&mut f).collect());
     match (negatives.is_empty(), positives.is_empty()) {
@@ -293,7 +293,7 @@ fn enumeration(mut names: Vec<String>) -> String {
 }
 
 impl<R: RuleType> ErrorVariant<R> {
-    /// Returns the message: of a parser's failure, the rules that were expected.
+    /// Returns the message. For a failure of a parser, it has the rules that were expected.
     pub fn message(&self) -> Cow<'_, str> {
         match self {
             ErrorVariant::CustomError { message } => Cow::Borrowed(message),
@@ -304,7 +304,7 @@ impl<R: RuleType> ErrorVariant<R> {
     }
 }
 
-/// Prints the place, the line with marks below it, and the message.
+/// Prints the position, the line with marks below it, and the message.
 impl<R: RuleType> fmt::Display for Error<R> {
     fn fmt(&self, f: &mut fmt::Formatter<'_>) -> fmt::Result {
         let ((start, column), end) = match self.line_col {

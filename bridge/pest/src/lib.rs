@@ -38,6 +38,7 @@ mod position;
 pub mod pratt_parser;
 #[deprecated(note = "use `pest::pratt_parser`, which has prefix and postfix operators too")]
 pub mod prec_climber;
+mod replay;
 mod span;
 mod stack;
 mod token;

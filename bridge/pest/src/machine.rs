@@ -8,15 +8,19 @@ use alloc::vec::Vec;
 
 use kingorewa_library::code::{self, Node, Nodes, Unmatched};
 
+use crate::attempts::is_detailed;
 use crate::error::{Error, ErrorVariant};
 use crate::iterators::{Pairs, Rules, Tree};
 use crate::parser_state::{call_limit, LIMIT_REACHED, STEPS_OF_A_CALL};
+use crate::replay;
 use crate::{Position, RuleType};
 
 /// A compiled grammar, as a constant of a program.
 pub struct Grammar<R: 'static> {
     /// The block that the library compiles.
     pub block: &'static [u8],
+    /// Its optimized rules as errors in detail need them.
+    pub source: &'static [u8],
     /// The rules by their rows: those of the grammar in its order, and then `EOI`, if the grammar uses it.
     pub rules: &'static [R],
     /// The row of `EOI`.
@@ -50,8 +54,10 @@ pub fn parse<'i, R: RuleType>(
     if let Some(found) = grammar.tagged.and_then(|tagged| find_tagged(tagged, grammar.end, row, text)) {
         return Ok(pairs(found.0, text, Rules::Table(grammar.rules), found.1));
     }
-    let nodes = run(grammar.block, row, text, |row| grammar.rules[row as usize])?;
-    Ok(pairs(nodes, text, Rules::Table(grammar.rules), Vec::new()))
+    match run(grammar.block, row, text, |row| grammar.rules[row as usize]) {
+        Ok(nodes) => Ok(pairs(nodes, text, Rules::Table(grammar.rules), Vec::new())),
+        Err(error) => Err(with_detail(error, grammar.source, grammar.rules, grammar.end, row, text)),
+    }
 }
 
 /// Runs the rule of a row of a compiled grammar from the start of a text. `rules` has the rules of all rows, that of `EOI`
@@ -61,6 +67,7 @@ pub fn parse<'i, R: RuleType>(
 /// Where there is no memory for the text, and where the bytes are no compiled grammar with that row.
 pub fn parse_block<'i, R: RuleType>(
     block: &[u8],
+    source: &[u8],
     tagged: Option<Tagged<'_, 'i>>,
     row: u32,
     text: &'i str,
@@ -70,65 +77,48 @@ pub fn parse_block<'i, R: RuleType>(
     if let Some(found) = tagged.and_then(|tagged| find_tagged(tagged, end, row, text)) {
         return Ok(pairs(found.0, text, Rules::List(rules), found.1));
     }
-    let nodes = run(block, row, text, |row| rules[row as usize])?;
-    Ok(pairs(nodes, text, Rules::List(rules), Vec::new()))
-}
-
-/// Why a rule has no nodes on a text.
-enum Unfound {
-    /// It fails, with its furthest failure at a byte, and names that are expected are looked for in so many steps.
-    Failed { pos: usize, steps: u64 },
-    /// A guided run says that it fails.
-    FailedGuided { pos: usize },
-    /// It has no answer.
-    Stopped(Unmatched),
-    /// It takes more steps than the program allows.
-    LimitReached,
+    match run(block, row, text, |row| rules[row as usize]) {
+        Ok(nodes) => Ok(pairs(nodes, text, Rules::List(rules), Vec::new())),
+        Err(error) => Err(with_detail(error, source, &rules, end, row, text)),
+    }
 }
 
 /// So many steps, or fewer if the program has a limit.
-fn limited(steps: u64) -> u64 {
+fn limit_steps(steps: u64) -> u64 {
     let limit = call_limit().map(|calls| (calls as u64).saturating_mul(STEPS_OF_A_CALL));
     limit.map_or(steps, |limit| limit.min(steps))
 }
 
-/// Runs the rule of a row of a compiled grammar from the start of a text: in a number of steps that suffices for nearly
-/// all texts, then by a guided run, whose turns are linear in the text, and if that has no answer, as when it comes to
-/// an operation on the stack, without a limit but the caller's.
-fn find(block: &[u8], row: u32, text: &str) -> Result<Nodes, Unfound> {
-    let first = code::first_steps(text);
-    match code::run(block, row, text, limited(first)) {
-        Err(Unmatched::OutOfSteps) if limited(first) < first => return Err(Unfound::LimitReached),
-        Err(Unmatched::OutOfSteps) => {}
-        Err(Unmatched::Failed { pos }) => {
-            return Err(Unfound::Failed { pos, steps: code::error_steps(text) })
-        }
-        found => return found.map_err(Unfound::Stopped),
-    }
-    match code::run_guided(block, row, text, limited(code::bound(block, text.len()))) {
-        Err(Unmatched::OutOfSteps) => {}
-        Err(Unmatched::Failed { pos }) => return Err(Unfound::FailedGuided { pos }),
-        found => return found.map_err(Unfound::Stopped),
-    }
-    match code::run(block, row, text, limited(u64::MAX)) {
-        Err(Unmatched::OutOfSteps) if limited(u64::MAX) < u64::MAX => Err(Unfound::LimitReached),
-        Err(Unmatched::Failed { pos }) => Err(Unfound::Failed { pos, steps: code::error_steps(text) }),
-        found => found.map_err(Unfound::Stopped),
-    }
+/// Runs the rule of a row of a compiled grammar from the start of a text, without a limit but the program's.
+fn find(block: &[u8], row: u32, text: &str) -> Result<Nodes, Unmatched> {
+    code::run(block, row, text, limit_steps(code::NO_LIMIT))
 }
 
 /// Runs the rule of a row, and makes an error where it has no nodes.
 fn run<R: RuleType>(block: &[u8], row: u32, text: &str, rule: impl Fn(u32) -> R) -> Result<Nodes, Error<R>> {
     find(block, row, text).map_err(|why| match why {
-        Unfound::Failed { pos, steps } => failure(block, row, text, pos, limited(steps), rule),
-        Unfound::FailedGuided { pos } => {
-            expectation(block, row, text, pos, limited(code::error_steps(text)), rule)
-        }
-        Unfound::Stopped(why) => stopped(text, why),
-        Unfound::LimitReached => {
-            error_at(text, 0, ErrorVariant::CustomError { message: LIMIT_REACHED.to_owned() })
-        }
+        Unmatched::Failed { pos } => failure(block, row, text, pos, rule),
+        why => stopped(text, why),
     })
+}
+
+/// An error with what was tried, if errors are to tell it.
+fn with_detail<R: RuleType>(
+    error: Error<R>,
+    source: &[u8],
+    rules: &[R],
+    end: u32,
+    row: u32,
+    text: &str,
+) -> Error<R> {
+    if !is_detailed() {
+        return error;
+    }
+    let rule = |row: u32| rules.get(row as usize).copied();
+    match replay::attempts(source, rule, end, row, text) {
+        Some(attempts) => error.with_attempts(attempts),
+        None => error,
+    }
 }
 
 /// Nodes, and the tag of each.
@@ -172,15 +162,9 @@ fn find_tagged<'i>(tagged: Tagged<'_, 'i>, end: u32, row: u32, text: &str) -> Op
 ///
 /// It takes up to three runs, which remember no calls, so they have a limit of their own. Where one does not end in it, or
 /// has too many attempts, the error names the rules that are expected at the furthest failure.
-fn failure<R: RuleType>(
-    block: &[u8],
-    row: u32,
-    text: &str,
-    pos: usize,
-    steps: u64,
-    rule: impl Fn(u32) -> R,
-) -> Error<R> {
-    match code::attempts(block, row, text, pos, limited(code::error_steps(text))) {
+fn failure<R: RuleType>(block: &[u8], row: u32, text: &str, pos: usize, rule: impl Fn(u32) -> R) -> Error<R> {
+    let steps = limit_steps(code::error_steps(text));
+    match code::attempts(block, row, text, pos, steps) {
         Some(found) => {
             let (positives, negatives) = (rules(&found.positives, &rule), rules(&found.negatives, &rule));
             error_at(text, found.pos, ErrorVariant::ParsingError { positives, negatives })
@@ -226,7 +210,7 @@ fn rules<R: RuleType>(rows: &[u32], rule: impl Fn(u32) -> R) -> Vec<R> {
 fn stopped<R: RuleType>(text: &str, why: Unmatched) -> Error<R> {
     let message = match why {
         Unmatched::EmptyStack => "PEEK or POP was called on the empty stack",
-        Unmatched::OutOfSteps => "the rule takes too many steps",
+        Unmatched::OutOfSteps => LIMIT_REACHED,
         Unmatched::TooLong => "texts of 4 GiB and more are not parsed",
         Unmatched::Failed { .. } | Unmatched::NoBlock | Unmatched::NoRule => {
             panic!("the bytes are those of a compiled grammar that has the rule: {why:?}")

@@ -190,8 +190,9 @@ fn pairs_of<'i, R: RuleType>(text: &'i str, bounds: &[Bound<'i, R>]) -> Pairs<'i
 
 /// The error of a state that failed.
 fn error_of<R: RuleType>(text: &str, state: ParserState<'_, R>) -> Error<R> {
+    let is_limited = state.is_out_of_calls();
     let Failures { pos, mut positives, mut negatives } = state.failures;
-    let variant = if state.calls == Some(0) {
+    let variant = if is_limited {
         ErrorVariant::CustomError { message: LIMIT_REACHED.to_owned() }
     } else {
         for rules in [&mut positives, &mut negatives] {
@@ -246,6 +247,21 @@ impl<'i, R: RuleType> ParserState<'i, R> {
             None => {}
         }
         Ok(self)
+    }
+
+    /// Sets how many calls it may make.
+    pub(crate) fn set_calls(&mut self, calls: usize) {
+        self.calls = Some(calls);
+    }
+
+    /// Returns whether it may make no call more.
+    pub(crate) fn is_out_of_calls(&self) -> bool {
+        self.calls == Some(0)
+    }
+
+    /// Returns whether its stack is empty.
+    pub(crate) fn has_empty_stack(&self) -> bool {
+        self.stack.is_empty()
     }
 
     fn is_negative(&self) -> bool {

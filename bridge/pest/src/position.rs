@@ -34,10 +34,10 @@ impl<'i> Position<'i> {
         self.pos
     }
 
-    /// Returns the span from here to another position.
+    /// Returns the span from this position to another one.
     ///
     /// # Panics
-    /// Where the other position is in another text, and in a debug build where it is before this one.
+    /// If the other position is in another text. In a debug build, also if it is before this one.
     pub fn span(&self, other: &Position<'i>) -> Span<'i> {
         assert!(ptr::eq(self.input, other.input), "span created from positions from different inputs");
         Span::between(self.input, self.pos, other.pos)
@@ -65,14 +65,14 @@ impl<'i> Position<'i> {
         takes
     }
 
-    /// Moves on over the next character, if a function takes it.
+    /// Moves the position over the next character, if the function accepts it.
     pub(crate) fn take_char(&mut self, is_taken: impl FnOnce(char) -> bool) -> bool {
         let next = self.input[self.pos..].chars().next().filter(|next| is_taken(*next));
         self.pos += next.map_or(0, char::len_utf8);
         next.is_some()
     }
 
-    /// Moves on over so many characters, if there are as many.
+    /// Moves the position over `count` characters, if there are `count`.
     pub(crate) fn skip(&mut self, count: usize) -> bool {
         let rest = &self.input[self.pos..];
         let mut ends = rest.char_indices().map(|(at, _)| at).chain([rest.len()]);
@@ -83,7 +83,7 @@ impl<'i> Position<'i> {
         true
     }
 
-    /// Moves on to the first place of one of some texts, or to the end.
+    /// Moves the position to the next one at which one of the texts begins, or to the end.
     pub(crate) fn skip_until(&mut self, texts: &[&str]) {
         let rest = &self.input[self.pos..];
         let found = match texts {
@@ -119,7 +119,7 @@ impl<'i> Position<'i> {
     }
 }
 
-/// Where the last line of a text starts.
+/// The byte at which the last line of a text starts.
 fn line_start(text: &str) -> usize {
     text.rfind('\n').map_or(0, |at| at + 1)
 }
@@ -130,7 +130,8 @@ impl fmt::Debug for Position<'_> {
     }
 }
 
-/// Positions are equal where they are the same byte of the same text, which is not another with equal bytes.
+/// Two positions are equal if they are the same byte of the same text. Another text with equal bytes is not the same
+/// text.
 impl PartialEq for Position<'_> {
     fn eq(&self, other: &Self) -> bool {
         ptr::eq(self.input, other.input) && self.pos == other.pos
@@ -147,7 +148,7 @@ impl PartialOrd for Position<'_> {
     }
 }
 
-/// Panics where the positions are in two texts.
+/// Panics if the positions are in two texts.
 impl Ord for Position<'_> {
     fn cmp(&self, other: &Self) -> Ordering {
         self.partial_cmp(other).expect("cannot compare positions from different strs")

@@ -13,7 +13,7 @@ use crate::RuleType;
 
 pub use crate::pratt_precedence;
 
-/// How infix operators of one precedence group.
+/// How infix operators of one precedence are grouped.
 #[derive(Clone, Copy, Debug, Eq, Hash, PartialEq)]
 pub enum Assoc {
     /// `a + b + c` is `(a + b) + c`.
@@ -22,7 +22,7 @@ pub enum Assoc {
     Right,
 }
 
-/// Where an operator stands.
+/// The position of an operator: before, after or between its operands.
 #[doc(hidden)]
 #[derive(Clone, Copy, Debug, Eq, PartialEq)]
 pub enum Affix {
@@ -139,7 +139,7 @@ impl<R: RuleType> PrattParser<R> {
         self
     }
 
-    /// Sets what is made of a pair that is no operator.
+    /// Sets the function that makes a value from a pair that is no operator.
     pub fn map_primary<'pratt, 'a, 'i, X, T>(
         &'pratt self,
         primary: X,
@@ -172,10 +172,11 @@ pub struct ConstPrattParser<R: RuleType + 'static, const N: usize> {
 }
 
 impl<R: RuleType + 'static, const N: usize> ConstPrattParser<R, N> {
-    /// Makes a parser of operators, each with whether it begins a higher precedence, as the first does.
+    /// Makes a parser from operators. Each comes with whether it begins a higher precedence. The first one must begin
+    /// one.
     ///
     /// # Panics
-    /// Where the first does not, and where one stands for several.
+    /// If the first operator does not begin a precedence, or if an operator stands for several.
     pub const fn new_const(ops: [(Op<R>, bool); N]) -> Self {
         const { assert!(N > 0, "ConstPrattParser requires at least one operator") };
         assert!(ops[0].1, "the first operator must start a new precedence level (`true`)");
@@ -196,7 +197,7 @@ impl<R: RuleType + 'static, const N: usize> ConstPrattParser<R, N> {
         ConstPrattParser { operators }
     }
 
-    /// Sets what is made of a pair that is no operator.
+    /// Sets the function that makes a value from a pair that is no operator.
     pub fn map_primary<'pratt, 'a, 'i, X, T>(
         &'pratt self,
         primary: X,
@@ -220,7 +221,7 @@ type MapPrefix<'a, 'i, R, T> = Box<dyn FnMut(Pair<'i, R>, T) -> T + 'a>;
 type MapPostfix<'a, 'i, R, T> = Box<dyn FnMut(T, Pair<'i, R>) -> T + 'a>;
 type MapInfix<'a, 'i, R, T> = Box<dyn FnMut(T, Pair<'i, R>, T) -> T + 'a>;
 
-/// What is made of operands and operators.
+/// The functions that make values from operands and operators.
 pub struct PrattParserMap<'pratt, 'a, 'i, R, F, T, P = PrattParser<R>>
 where
     R: RuleType,
@@ -253,7 +254,7 @@ where
         PrattParserMap { parser, primary, prefix: None, postfix: None, infix: None, makes: PhantomData }
     }
 
-    /// Sets what is made of a prefix operator and its operand.
+    /// Sets the function that makes a value from a prefix operator and its operand.
     pub fn map_prefix<X>(mut self, prefix: X) -> Self
     where
         X: FnMut(Pair<'i, R>, T) -> T + 'a,
@@ -262,7 +263,7 @@ where
         self
     }
 
-    /// Sets what is made of an operand and a postfix operator.
+    /// Sets the function that makes a value from an operand and a postfix operator.
     pub fn map_postfix<X>(mut self, postfix: X) -> Self
     where
         X: FnMut(T, Pair<'i, R>) -> T + 'a,
@@ -271,7 +272,7 @@ where
         self
     }
 
-    /// Sets what is made of an infix operator and its operands.
+    /// Sets the function that makes a value from an infix operator and its operands.
     pub fn map_infix<X>(mut self, infix: X) -> Self
     where
         X: FnMut(T, Pair<'i, R>, T) -> T + 'a,
@@ -280,11 +281,12 @@ where
         self
     }
 
-    /// Makes a value of an expression. Operators wait on a list, so that no length of an expression takes stack.
+    /// Makes the value of an expression. Operators wait in a list, so the length of an expression takes no stack of the
+    /// process.
     ///
     /// # Panics
-    /// Where operands and operators don't alternate as they should, and at an operator of a kind that nothing was
-    /// set for.
+    /// If operands and operators do not alternate as they should, or if no function was set for the kind of an
+    /// operator.
     pub fn parse<I: Iterator<Item = Pair<'i, R>>>(&mut self, pairs: I) -> T {
         let mut pairs = pairs.peekable();
         let mut waiting: Vec<Waiting<'i, R, T>> = Vec::new();
@@ -355,7 +357,7 @@ where
         }
     }
 
-    /// The value of a prefix operator, or of an infix one where an operand is before it.
+    /// The value of a prefix operator, or of an infix one if an operand is before it.
     fn with_operator(&mut self, left: Option<T>, operator: Pair<'i, R>, right: T) -> T {
         match (left, &mut self.infix, &mut self.prefix) {
             (Some(left), Some(infix), _) => infix(left, operator, right),

@@ -9,8 +9,8 @@ use core::ops::BitOr;
 use crate::iterators::Pair;
 use crate::RuleType;
 
-/// Makes a [`PrecClimber`] of an enum `Rule` as a constant: `L` or `R` for how operators of a precedence group, and the
-/// operators between `|`. Each comma begins a higher precedence.
+/// Makes a [`PrecClimber`] of an enum `Rule` as a constant. `L` or `R` says how operators of a precedence are grouped.
+/// The operators of one precedence have `|` between them. Each comma begins a higher precedence.
 ///
 /// ```
 /// # #![allow(deprecated)]
@@ -47,7 +47,7 @@ macro_rules! prec_climber {
     };
 }
 
-/// How operators of one precedence group.
+/// How operators of one precedence are grouped.
 #[derive(Clone, Copy, Debug, Eq, PartialEq)]
 pub enum Assoc {
     /// `a + b + c` is `(a + b) + c`.
@@ -84,7 +84,7 @@ pub struct PrecClimber<R: Clone + 'static> {
 }
 
 impl<R: Clone + 'static> PrecClimber<R> {
-    /// Makes a climber of operators with their precedences, as a constant.
+    /// Makes a climber from operators with their precedences, as a constant.
     pub const fn new_const(operators: &'static [(R, u32, Assoc)]) -> PrecClimber<R> {
         PrecClimber { operators: Cow::Borrowed(operators) }
     }
@@ -100,7 +100,7 @@ struct Waiting<'i, R, T> {
 }
 
 impl<R: RuleType> PrecClimber<R> {
-    /// Makes a climber of operators, each of a higher precedence than those before.
+    /// Makes a climber from operators. Each has a higher precedence than those before it.
     pub fn new(operators: Vec<Operator<R>>) -> PrecClimber<R> {
         let levels = operators.into_iter().zip(1..);
         let rows = levels.flat_map(|(operator, level)| {
@@ -109,11 +109,11 @@ impl<R: RuleType> PrecClimber<R> {
         PrecClimber { operators: rows.collect() }
     }
 
-    /// Makes a value of an expression, which ends at the first pair that is no operator. Operators wait on a list, so
-    /// that no length of an expression takes stack.
+    /// Makes the value of an expression, which ends at the first pair that is no operator. Operators wait in a list, so
+    /// the length of an expression takes no stack of the process.
     ///
     /// # Panics
-    /// Where there is no pair, or none after an operator.
+    /// If there is no pair, or no pair after an operator.
     pub fn climb<'i, P, F, G, T>(&self, mut pairs: P, mut primary: F, mut infix: G) -> T
     where
         P: Iterator<Item = Pair<'i, R>>,

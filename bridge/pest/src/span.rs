@@ -76,8 +76,8 @@ impl<'i> Span<'i> {
         self.input
     }
 
-    /// Returns the lines that have a byte of the span, each whole. A span without bytes has the line where it is, but at the
-    /// end of the text none.
+    /// Returns the lines that have a byte of the span, each as a whole. An empty span has the line in which it is, and
+    /// no line at the end of the text.
     pub fn lines(&self) -> Lines<'i> {
         Lines { spans: self.lines_span() }
     }
@@ -104,7 +104,7 @@ impl fmt::Debug for Span<'_> {
     }
 }
 
-/// Spans are equal where they are the same part of the same text, which is not another with equal bytes.
+/// Two spans are equal if they are the same part of the same text. Another text with equal bytes is not the same text.
 impl PartialEq for Span<'_> {
     fn eq(&self, other: &Self) -> bool {
         ptr::eq(self.input, other.input) && (self.start, self.end) == (other.start, other.end)
@@ -124,7 +124,7 @@ impl Hash for Span<'_> {
 #[derive(Clone, Debug)]
 pub struct LinesSpan<'i> {
     span: Span<'i>,
-    /// Where the next line is.
+    /// The position of the next line.
     pos: usize,
 }
 

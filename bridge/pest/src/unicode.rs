@@ -14,7 +14,8 @@ use regex_syntax::hir::{Class, HirKind};
 struct Set(Vec<(char, char)>);
 
 impl Set {
-    /// Returns the set of a name. There is none where the crate does not know it, as of the surrogates, which are no characters.
+    /// Returns the set of the property named `name`, or `None` if the crate does not know it. There is no set for
+    /// surrogates, since these are no characters.
     fn of(name: &str) -> Set {
         let class = regex_syntax::parse(&format!(r"\p{{{name}}}"));
         match class.as_ref().map(|class| class.kind()) {
@@ -40,7 +41,7 @@ macro_rules! properties {
             }
         )*
 
-        /// The names of all properties, with what tells whether a character has one.
+        /// The names of all properties, each with a function that returns whether a character has it.
         const PROPERTIES: &[(&str, fn(char) -> bool)] = &[$((stringify!($name), $name)),*];
     };
 }
@@ -50,7 +51,7 @@ pub fn unicode_property_names() -> Box<dyn Iterator<Item = &'static str>> {
     Box::new(PROPERTIES.iter().map(|(name, _)| *name))
 }
 
-/// Returns a function that tells whether a character has the property of a name.
+/// Returns a function that returns whether a character has the property with this name.
 pub fn by_name(name: &str) -> Option<Box<dyn Fn(char) -> bool>> {
     let (_, has) = PROPERTIES.iter().find(|(it, _)| *it == name)?;
     Some(Box::new(has))

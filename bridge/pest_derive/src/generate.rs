@@ -102,6 +102,7 @@ fn parser_impl(input: &DeriveInput, grammar: &Grammar, variants: &[Ident]) -> To
     let name = &input.ident;
     let (impl_generics, type_generics, where_clause) = input.generics.split_for_impl();
     let block = Literal::byte_string(&grammar.block);
+    let source = Literal::byte_string(&grammar.source);
     let tagged = match &grammar.tagged {
         Some(TaggedBlock { block, tags }) => {
             let block = Literal::byte_string(block);
@@ -128,6 +129,7 @@ fn parser_impl(input: &DeriveInput, grammar: &Grammar, variants: &[Ident]) -> To
             ) -> ::core::result::Result<::pest::iterators::Pairs<'i, Rule>, ::pest::error::Error<Rule>> {
                 static GRAMMAR: ::pest::machine::Grammar<Rule> = ::pest::machine::Grammar {
                     block: #block,
+                    source: #source,
                     rules: &[#(Rule::#rules),*],
                     end: #count,
                     tagged: #tagged,

@@ -28,6 +28,8 @@ pub(crate) struct Grammar {
     pub(crate) row_of_eoi: usize,
     /// Its rules, compiled.
     pub(crate) block: Vec<u8>,
+    /// Its rules as errors in detail need them.
+    pub(crate) source: Vec<u8>,
     /// The same with its tags, if it has any.
     pub(crate) tagged: Option<TaggedBlock>,
     /// Whether it uses `EOI`.
@@ -66,10 +68,21 @@ pub(crate) fn of_attributes(input: &DeriveInput) -> syn::Result<Grammar> {
             let tagged = matching::compile_tagged(&rules, true).map_err(uncompiled)?;
             let added = text[own_text.len()..].lines().filter(|line| !line.is_empty()).count();
             let row_of_eoi = rules.len();
+            let own_source = matching::source(&rules[..row_of_eoi - added], &rules[row_of_eoi - added..]);
             let names = rules.into_iter().map(|rule| rule.name).take(row_of_eoi - added).collect();
             let (docs, rule_docs) = docs(&own_text);
             let files = sources.into_iter().filter_map(|source| source.file).collect();
-            Ok(Grammar { files, names, row_of_eoi, block, tagged, uses_eoi, docs, rule_docs })
+            Ok(Grammar {
+                files,
+                names,
+                row_of_eoi,
+                block,
+                source: own_source,
+                tagged,
+                uses_eoi,
+                docs,
+                rule_docs,
+            })
         }
         Err(errors) => {
             let errors = errors.into_iter().map(|error| error.renamed_rules(parser::rename_meta_rule));

@@ -137,18 +137,6 @@ pub(crate) fn grammar(text: &str) -> Option<Vec<u8>> {
     }
 }
 
-/// Optimized rules in binary form, of those in JSON.
-///
-/// # Panics
-/// Where the library has no memory.
-pub(crate) fn prepared(rules: &str) -> Vec<u8> {
-    let (status, bytes) = filled(rules.len(), |out, needed| library::prepare(rules, out, needed));
-    match status {
-        0 => bytes,
-        _ => no_answer(status),
-    }
-}
-
 /// The refusal of a text that a call refuses.
 fn refusal(text: &str, call: impl FnMut(&mut [u8], &mut usize) -> u8) -> Unanswered {
     match ask(text.len(), call, |reader| reader.pass()) {

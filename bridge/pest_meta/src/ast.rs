@@ -1,4 +1,4 @@
-//! Rules and expressions as they stand in a grammar, without their places.
+//! Rules and expressions of a grammar, without their positions.
 
 use std::fmt;
 
@@ -8,69 +8,69 @@ use crate::printing::{spelled, BareSide};
 /// A rule of a grammar.
 #[derive(Clone, Debug, Eq, PartialEq)]
 pub struct Rule {
-    /// Its name.
+    /// The name of the rule.
     pub name: String,
-    /// What kind of rule it is.
+    /// The type of the rule.
     pub ty: RuleType,
-    /// Its body.
+    /// The body of the rule.
     pub expr: Expr,
 }
 
 /// The kinds of rules.
 #[derive(Clone, Copy, Debug, Eq, PartialEq)]
 pub enum RuleType {
-    /// `a = { .. }`: it gives a token, and blanks are skipped in it as where it is called.
+    /// `a = { .. }`: the rule gives a token. Blanks are skipped in it if they are skipped at the call.
     Normal,
-    /// `a = _{ .. }`: as a normal rule, but it gives no token.
+    /// `a = _{ .. }`: the rule is like a normal rule, but gives no token.
     Silent,
-    /// `a = @{ .. }`: no blanks are skipped in it, and what it calls gives no tokens.
+    /// `a = @{ .. }`: no blanks are skipped in the rule, and the rules that it calls give no tokens.
     Atomic,
-    /// `a = ${ .. }`: no blanks are skipped in it, and what it calls gives tokens.
+    /// `a = ${ .. }`: no blanks are skipped in the rule, and the rules that it calls give tokens.
     CompoundAtomic,
-    /// `a = !{ .. }`: blanks are skipped in it wherever it is called.
+    /// `a = !{ .. }`: blanks are skipped in the rule at every call.
     NonAtomic,
 }
 
 /// An expression of a grammar.
 #[derive(Clone, Debug, Eq, PartialEq)]
 pub enum Expr {
-    /// That text: `"a"`.
+    /// Matches that text: `"a"`.
     Str(String),
-    /// That text, with ASCII letters of either case: `^"a"`.
+    /// Matches that text, with ASCII letters of either case: `^"a"`.
     Insens(String),
-    /// A character of the range: `'a'..'z'`.
+    /// Matches a character of the range: `'a'..'z'`.
     Range(String, String),
-    /// The rule or the builtin of that name: `a`.
+    /// Calls the rule or the builtin with that name: `a`.
     Ident(String),
-    /// Entries of the stack: `PEEK[0..-1]`, or `PEEK[0..]`.
+    /// Matches entries of the stack: `PEEK[0..-1]`, or `PEEK[0..]`.
     PeekSlice(i32, Option<i32>),
-    /// What comes has to match: `&e`.
+    /// Succeeds if the expression matches, and consumes nothing: `&e`.
     PosPred(Box<Expr>),
-    /// What comes may not match: `!e`.
+    /// Succeeds if the expression does not match, and consumes nothing: `!e`.
     NegPred(Box<Expr>),
-    /// One and then the other: `a ~ b`.
+    /// Matches one expression and then the other: `a ~ b`.
     Seq(Box<Expr>, Box<Expr>),
-    /// One or, where it fails, the other: `a | b`.
+    /// Matches one expression, or the other one if the first fails: `a | b`.
     Choice(Box<Expr>, Box<Expr>),
-    /// Once or not at all: `e?`.
+    /// Matches the expression or nothing: `e?`.
     Opt(Box<Expr>),
-    /// As often as it matches: `e*`.
+    /// Repeats the expression as long as it matches: `e*`.
     Rep(Box<Expr>),
-    /// As often as it matches, and once at least: `e+`.
+    /// Repeats the expression as long as it matches, at least once: `e+`.
     RepOnce(Box<Expr>),
-    /// So often: `e{2}`.
+    /// Repeats the expression this number of times: `e{2}`.
     RepExact(Box<Expr>, u32),
-    /// So often at least: `e{2,}`.
+    /// Repeats the expression at least this number of times: `e{2,}`.
     RepMin(Box<Expr>, u32),
-    /// So often at most: `e{,2}`.
+    /// Repeats the expression at most this number of times: `e{,2}`.
     RepMax(Box<Expr>, u32),
-    /// From so often to so often: `e{2, 3}`.
+    /// Repeats the expression between the first and the second number of times: `e{2, 3}`.
     RepMinMax(Box<Expr>, u32, u32),
-    /// All up to one of the texts: `(!("a" | "b") ~ ANY)*`.
+    /// Consumes all characters before one of the texts: `(!("a" | "b") ~ ANY)*`.
     Skip(Vec<String>),
-    /// What matches is pushed on the stack: `PUSH(e)`.
+    /// Pushes the text that the expression matches on the stack: `PUSH(e)`.
     Push(Box<Expr>),
-    /// The text is pushed on the stack: `PUSH_LITERAL("a")`.
+    /// Pushes the text on the stack: `PUSH_LITERAL("a")`.
     #[cfg(feature = "grammar-extras")]
     PushLiteral(String),
     /// An expression with a tag: `#tag = e`.
@@ -79,13 +79,13 @@ pub enum Expr {
 }
 
 impl Expr {
-    /// The expression and all that stands in it, each before what stands in it, the left side before the
-    /// right.
+    /// Returns the expression and all expressions inside it, each before those inside it, and the left side
+    /// before the right one.
     pub fn iter_top_down(&self) -> ExprTopDownIterator {
         ExprTopDownIterator::new(self)
     }
 
-    /// The expression with `f` done at it, then at each operand of its answer, and so on down.
+    /// Applies `f` to the expression, then to each operand of the result, and so on down.
     pub fn map_top_down<F>(self, mut f: F) -> Expr
     where
         F: FnMut(Expr) -> Expr,
@@ -96,7 +96,8 @@ impl Expr {
         go(self, &mut f)
     }
 
-    /// The expression with `f` done at what stands in each node, and then at the node with what that gives.
+    /// Applies `f` from the leaves up: to the operands of each expression, and then to the expression with
+    /// the results.
     pub fn map_bottom_up<F>(self, mut f: F) -> Expr
     where
         F: FnMut(Expr) -> Expr,
@@ -108,7 +109,7 @@ impl Expr {
         go(self, &mut f)
     }
 
-    /// The expression with `f` done at its operands, the left one first.
+    /// The expression with `f` applied to its operands, the left one first.
     fn map_operands(self, f: &mut dyn FnMut(Expr) -> Expr) -> Expr {
         let mut map = |operand: Box<Expr>| Box::new(f(*operand));
         match self {
@@ -204,14 +205,14 @@ impl fmt::Display for Expr {
     }
 }
 
-/// What [`Expr::iter_top_down`] goes through.
+/// The iterator that [`Expr::iter_top_down`] returns.
 pub struct ExprTopDownIterator {
     /// Those whose turn is still to come, with what stands in them. The last comes first.
     left: Vec<Expr>,
 }
 
 impl ExprTopDownIterator {
-    /// The expression and all that stands in it.
+    /// Makes an iterator over the expression and all expressions inside it.
     pub fn new(expr: &Expr) -> Self {
         ExprTopDownIterator { left: vec![expr.clone()] }
     }

@@ -191,8 +191,24 @@ impl<'a> Reader<'a> {
     }
 }
 
+/// Returns a list of rules, each by its name, type and body.
+pub(crate) fn write_rules(
+    rules: impl ExactSizeIterator<Item = (impl AsRef<str>, RuleType, Vec<Node>)>,
+) -> Vec<u8> {
+    let mut bytes = Vec::new();
+    write_size(&mut bytes, rules.len());
+    rules.for_each(|(name, ty, body)| write_rule(&mut bytes, name.as_ref(), ty, &body));
+    bytes
+}
+
+/// Appends a list of texts.
+pub(crate) fn write_texts(out: &mut Vec<u8>, texts: &[String]) {
+    write_size(out, texts.len());
+    texts.iter().for_each(|text| write_text(out, text));
+}
+
 /// Appends a size.
-pub(crate) fn write_size(out: &mut Vec<u8>, size: usize) {
+fn write_size(out: &mut Vec<u8>, size: usize) {
     out.extend_from_slice(&size.to_le_bytes());
 }
 
@@ -203,7 +219,7 @@ fn write_text(out: &mut Vec<u8>, text: &str) {
 }
 
 /// Appends a rule of that name, type and body.
-pub(crate) fn write_rule(out: &mut Vec<u8>, name: &str, ty: RuleType, body: &[Node]) {
+fn write_rule(out: &mut Vec<u8>, name: &str, ty: RuleType, body: &[Node]) {
     write_text(out, name);
     out.push(match ty {
         RuleType::Normal => 0,
@@ -239,10 +255,7 @@ fn write_node(out: &mut Vec<u8>, node: &Node) {
             out.extend_from_slice(&least.to_le_bytes());
             out.extend_from_slice(&most.to_le_bytes());
         }
-        Node::Skip(texts) => {
-            write_size(out, texts.len());
-            texts.iter().for_each(|text| write_text(out, text));
-        }
+        Node::Skip(texts) => write_texts(out, texts),
         Node::PosPred | Node::NegPred | Node::Seq | Node::Choice | Node::Opt | Node::Rep => {}
         Node::RepOnce | Node::Push | Node::RestoreOnErr => {}
     }
@@ -293,18 +306,15 @@ mod tests {
         }
     }
 
-    fn written() -> Vec<u8> {
-        let mut bytes = Vec::new();
-        write_size(&mut bytes, 2);
+    fn two_rules() -> Vec<u8> {
         let FlatRule { name, ty, nodes, .. } = rule();
-        write_rule(&mut bytes, &name, ty, &nodes);
-        write_rule(&mut bytes, "b", RuleType::Silent, &[Node::Skip(Vec::new())]);
-        bytes
+        let rules = [(&name[..], ty, nodes), ("b", RuleType::Silent, vec![Node::Skip(Vec::new())])];
+        write_rules(rules.into_iter())
     }
 
     #[test]
     fn rules_are_read_as_they_were_written() {
-        let bytes = written();
+        let bytes = two_rules();
         let mut reader = Reader::new(&bytes, 0);
         let read = reader.list(Reader::rule).unwrap();
         reader.end().unwrap();
@@ -317,7 +327,7 @@ mod tests {
 
     #[test]
     fn what_is_cut_off_or_changed_is_refused_or_read_without_a_panic() {
-        let bytes = written();
+        let bytes = two_rules();
         for len in 0..bytes.len() {
             assert!(Reader::new(&bytes[..len], 0).list(Reader::rule).is_err(), "{len}");
             assert!(Reader::new(&bytes[..len], 0).pass_rules().is_err(), "{len}");

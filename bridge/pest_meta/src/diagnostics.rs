@@ -1,5 +1,5 @@
-//! The diagnostics of a grammar, with helps and fixes, as of the program pest-lint. No part of the original's
-//! interface.
+//! The diagnostics of a grammar, with helps and fixes, as in the program pest-lint. This module is no part of
+//! the original's interface.
 //!
 //! ```
 //! use pest_meta::diagnostics::diagnose;
@@ -17,7 +17,7 @@ use std::ops::Range;
 use crate::answers;
 use crate::json::{Malformed, Reader, Reading};
 
-/// What a diagnostic says of the grammar.
+/// What a diagnostic says about the grammar.
 #[derive(Clone, Copy, Debug, PartialEq, Eq)]
 pub enum Severity {
     /// The grammar is refused.
@@ -32,7 +32,7 @@ pub enum Severity {
 pub struct Diagnostic {
     /// Whether it is an error.
     pub severity: Severity,
-    /// The code, as `pest::left_recursion`; `pest-lint --explain CODE` prints a page about it.
+    /// The code, such as `pest::left_recursion`. `pest-lint --explain CODE` prints a page about it.
     pub code: String,
     /// What is wrong.
     pub message: String,
@@ -42,17 +42,17 @@ pub struct Diagnostic {
     pub line: usize,
     /// The column at which the span starts.
     pub column: usize,
-    /// How to mend it, where that is known.
+    /// How to fix it, if that is known.
     pub help: Option<String>,
-    /// The change that does so, where one is known.
+    /// The change that fixes it, if one is known.
     pub fix: Option<Fix>,
     /// Other parts of the grammar that matter to it.
     pub related: Vec<Related>,
-    /// What would have let a syntax error's text get further, as a message names it: `` `~` ``, for one.
+    /// The signs and words that were expected at a syntax error, as a message names them, such as `` `~` ``.
     pub expected: Vec<String>,
 }
 
-/// A change of a grammar that mends something.
+/// A change of a grammar that fixes a diagnostic.
 #[derive(Clone, Debug, PartialEq, Eq)]
 pub struct Fix {
     /// The bytes of the grammar that are replaced.
@@ -64,7 +64,7 @@ pub struct Fix {
 /// A part of a grammar that matters to a diagnostic.
 #[derive(Clone, Debug, PartialEq, Eq)]
 pub struct Related {
-    /// Why the part matters.
+    /// The reason why the part matters.
     pub message: String,
     /// The bytes of the part.
     pub span: Range<usize>,
@@ -74,21 +74,22 @@ pub struct Related {
     pub column: usize,
 }
 
-/// Returns the errors with which a grammar is refused, or else its warnings, in the order of pest-lint.
+/// Returns the errors of a grammar, or its warnings if it has no errors, in the order of pest-lint.
 ///
-/// Tags and literal pushes are read here without the feature `grammar-extras`, too.
+/// Tags and literal pushes are accepted here without the feature `grammar-extras`, too.
 ///
 /// # Panics
-/// Where the library has no memory, or is of a later release and answers what this crate doesn't know.
+/// If the library cannot allocate, or if it is of a later release and returns what this crate does not know.
 pub fn diagnose(grammar: &str) -> Vec<Diagnostic> {
     answers::diagnostics(grammar, diagnostic).unwrap_or_else(|why| panic!("pest_meta: {why}"))
 }
 
 impl Fix {
-    /// Returns the grammar with the change. Further fixes of the grammar are at other bytes then.
+    /// Returns the grammar with the change. After it, other fixes of the grammar no longer fit, since their
+    /// bytes have moved.
     ///
     /// # Panics
-    /// Where the text has no such bytes, and so is not the grammar.
+    /// If the text does not have these bytes, and so is not the grammar.
     pub fn apply(&self, grammar: &str) -> String {
         let mut fixed = grammar.to_owned();
         fixed.replace_range(self.span.clone(), &self.replacement);
@@ -105,7 +106,7 @@ impl fmt::Display for Severity {
     }
 }
 
-/// Writes the place, the severity, the code and the message, in one line.
+/// Writes the position, the severity, the code and the message, in one line.
 impl fmt::Display for Diagnostic {
     fn fmt(&self, f: &mut fmt::Formatter<'_>) -> fmt::Result {
         write!(f, "{}:{}: {}[{}]: {}", self.line, self.column, self.severity, self.code, self.message)

@@ -13,15 +13,15 @@
 //!
 //! # What is proved
 //!
-//! The rules that are read are those that the text spells, of which there is one list at most. A syntax error
-//! stands at the furthest place where a rule failed. Each other error is at the piece of the text that it
-//! speaks of, and an accepted grammar is well-formed. The optimized rules come from the rules by named
-//! rewriting steps. No call of the library panics, overflows a number or reads out of bounds, and each ends.
+//! The rules are those that the text spells, and a text spells at most one list of rules. A syntax error is
+//! at the furthest position at which a rule failed. Each other error is at the part of the text that it is
+//! about. An accepted grammar is well-formed. Named rewriting steps lead from the rules to the optimized
+//! rules. No call of the library panics, overflows a number or reads out of bounds, and each call returns.
 //!
 //! # Where the proof ends
 //!
-//! It ends at the calls of the library. This crate hands texts over and makes Rust's values of the answers,
-//! which is tested and not proved:
+//! The proof ends at the calls of the library. This crate passes texts to the library, and makes values of
+//! Rust from the results. That part is tested, and not proved:
 //!
 //! - the crate `kingorewa_library`: the calls over C, with all `unsafe` code;
 //! - `binary`, `json`, `nodes`, `answers`, [`diagnostics`]: answers in binary form and in JSON, read into rules,
@@ -40,12 +40,14 @@
 //!
 //! # Limits
 //!
-//! Each thread keeps the answer for the last grammar that it read, some ten bytes for each byte of the text.
+//! Each thread keeps the answer for the last grammar that it read. It has about ten bytes for each byte of
+//! the text.
 //!
-//! A call panics where the library has no memory: in a derive, that is an error at the grammar. Where the
-//! library is of a later release and answers what this crate doesn't know, a call that returns errors returns
-//! one which says so, and [`optimizer::optimize`] and [`diagnostics::diagnose`] panic. pest's parser state and what Rust derives for trees
-//! take stack by the depth of an expression, as in the original crate; the library takes none.
+//! If the library cannot allocate, a call panics. In a derive macro, that is an error at the grammar. The
+//! library may be of a later release, and return what this crate does not know. Then a call that returns
+//! errors returns one that says so, and [`optimizer::optimize`] and [`diagnostics::diagnose`] panic. The use
+//! of the process's stack by pest's parser state, and by what Rust derives for trees, depends on the depth of
+//! an expression, as in the original crate. That of the library does not.
 #![forbid(unsafe_code)]
 #![warn(missing_docs, rust_2018_idioms, unused_qualifications)]
 // The signatures are those of the original, and the errors pest's.
@@ -71,10 +73,10 @@ mod printing;
 mod recent;
 pub mod validator;
 
-/// What a result holds; a refusal ends in a panic with a report of all its errors.
+/// Returns the value of a result.
 ///
 /// # Panics
-/// Where the result is a refusal.
+/// If the result is an error. The message of the panic is a report of all errors.
 pub fn unwrap_or_report<T, E>(result: Result<T, E>) -> T
 where
     E: IntoIterator,
@@ -92,11 +94,14 @@ where
 /// The builtins that a grammar uses, and its optimized rules.
 type UsedBuiltinAndOptimized<'i> = (Vec<&'i str>, Vec<optimizer::OptimizedRule>);
 
-/// Reads, validates and optimizes a grammar: the names of the builtins that it uses, in the order of their
-/// first calls, and its optimized rules; or its errors.
+/// Reads, validates and optimizes a grammar. Returns the names of the builtins that it uses, in the order of
+/// their first calls, and its optimized rules.
+///
+/// # Errors
+/// The errors of the grammar, if it is refused.
 ///
 /// # Panics
-/// Where there is no memory for the grammar.
+/// If there is no memory for the grammar.
 pub fn parse_and_optimize(grammar: &str) -> Result<UsedBuiltinAndOptimized<'_>, Vec<Error<parser::Rule>>> {
     if cfg!(not(feature = "grammar-extras")) && grammar.contains("PUSH_LITERAL") {
         return step_by_step(grammar);

@@ -2,15 +2,15 @@
 //! original's interface.
 
 use std::collections::{BTreeSet, HashMap};
+use std::mem;
 
 use kingorewa_library::code::{self, Uncompiled};
 use pest::unicode::{by_name, unicode_property_names};
 
-use crate::answers;
 use crate::ast::RuleType;
-use crate::json::write_list;
+use crate::binary;
 use crate::nodes::{flat, Node};
-use crate::optimizer::{self, OptimizedExpr, OptimizedRule};
+use crate::optimizer::{OptimizedExpr, OptimizedRule};
 
 /// Compiles optimized rules to a block of bytes that the library runs on texts.
 ///
@@ -20,7 +20,29 @@ use crate::optimizer::{self, OptimizedExpr, OptimizedRule};
 /// # Panics
 /// Where the library has no memory.
 pub fn compile(rules: &[OptimizedRule]) -> Result<Vec<u8>, Uncompiled> {
-    code::compile_rules(&answers::prepared(&optimizer::json_of(rules)))
+    let rows = rules.iter().map(|rule| (&rule.name, rule.ty, flat(&rule.expr)));
+    code::compile_rules(&binary::write_rules(rows))
+}
+
+/// Optimized rules as errors in detail need them: in binary form, then the names of the properties of characters that they
+/// call, and a block with a rule for each of these. `added` are rules for properties that the library does not know.
+pub fn source(rules: &[OptimizedRule], added: &[OptimizedRule]) -> Vec<u8> {
+    let called: BTreeSet<String> = rules.iter().flat_map(|rule| called_names(&rule.expr)).collect();
+    let is_rule = |name: &String| rules.iter().any(|rule| rule.name == *name);
+    let mut names: Vec<String> = called.into_iter().filter(|name| !is_rule(name)).collect();
+    names.retain(|name| by_name(name).is_some());
+    let rule = |name: &String| match added.iter().find(|rule| rule.name == *name) {
+        Some(rule) => rule.expr.clone(),
+        None => OptimizedExpr::Ident(name.clone()),
+    };
+    // A number is no name of a grammar.
+    let numbered = names.iter().map(rule).enumerate();
+    let numbered = numbered.map(|(row, expr)| OptimizedRule { expr, ..empty_rule(row.to_string()) });
+    let block = compile(&numbered.collect::<Vec<_>>()).unwrap_or_default();
+    let mut bytes = binary::write_rules(rules.iter().map(|rule| (&rule.name, rule.ty, flat(&rule.expr))));
+    binary::write_texts(&mut bytes, &names);
+    bytes.extend(block);
+    bytes
 }
 
 /// The names that rules call and that are neither rules nor builtins, each once.
@@ -136,17 +158,14 @@ pub fn compile_tagged(rules: &[OptimizedRule], is_on_each: bool) -> Result<Optio
         true => tags_on_each(flat(&rule.expr)),
         false => flat(&rule.expr),
     };
-    let bodies: Vec<_> = rules.iter().map(|rule| tagged.take_out(body(rule))).collect();
+    let mut rows: Vec<_> =
+        rules.iter().map(|rule| (rule.name.clone(), rule.ty, tagged.take_out(body(rule)))).collect();
     if tagged.tags.is_empty() {
         return Ok(None);
     }
-    let own = rules.iter().zip(&bodies).map(|(rule, body)| (rule.name.clone(), rule.ty, body));
-    let added =
-        tagged.bodies.iter().enumerate().map(|(number, body)| (tagged.name(number), RuleType::Normal, body));
-    let rows: Vec<_> = own.chain(added).collect();
-    let mut json = String::new();
-    write_list(&mut json, &rows, |out, (name, ty, body)| optimizer::write_rule(out, name, *ty, body));
-    let block = code::compile_rules(&answers::prepared(&json))?;
+    let added = mem::take(&mut tagged.bodies).into_iter().enumerate();
+    rows.extend(added.map(|(number, body)| (tagged.name(number), RuleType::Normal, body)));
+    let block = code::compile_rules(&binary::write_rules(rows.into_iter()))?;
     Ok(Some(TaggedBlock { block, tags: tagged.tags }))
 }
 

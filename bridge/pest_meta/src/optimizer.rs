@@ -15,11 +15,7 @@ use crate::printing::{spelled, BareSide};
 /// Where there is no memory for what the rules are written out to, and where the library is of a release whose
 /// rules this crate does not know.
 pub fn optimize(rules: Vec<Rule>) -> Vec<OptimizedRule> {
-    let mut bytes = Vec::new();
-    binary::write_size(&mut bytes, rules.len());
-    for rule in &rules {
-        binary::write_rule(&mut bytes, &rule.name, rule.ty, &flat(&rule.expr));
-    }
+    let bytes = binary::write_rules(rules.iter().map(|rule| (&rule.name[..], rule.ty, flat(&rule.expr))));
     let json = || {
         let mut json = String::new();
         write_list(&mut json, &rules, |out, rule| write_rule(out, &rule.name, rule.ty, &flat(&rule.expr)));
@@ -29,15 +25,8 @@ pub fn optimize(rules: Vec<Rule>) -> Vec<OptimizedRule> {
     optimized.unwrap_or_else(|why| panic!("pest_meta: {why}"))
 }
 
-/// Returns optimized rules as JSON.
-pub(crate) fn json_of(rules: &[OptimizedRule]) -> String {
-    let mut json = String::new();
-    write_list(&mut json, rules, |out, rule| write_rule(out, &rule.name, rule.ty, &flat(&rule.expr)));
-    json
-}
-
 /// Writes a rule as JSON.
-pub(crate) fn write_rule(out: &mut String, name: &str, ty: RuleType, body: &[Node]) {
+fn write_rule(out: &mut String, name: &str, ty: RuleType, body: &[Node]) {
     out.push_str("{\"expr\":");
     write_list(out, body, nodes::write);
     out.push_str(",\"name\":");

@@ -1,4 +1,4 @@
-//! Grammars as token trees, and as rules with the place of each node.
+//! Grammars as token trees, and as rules with the span of each node.
 
 use kingorewa_library::Call;
 use pest::error::Error;
@@ -25,10 +25,14 @@ impl pest::Parser<Rule> for PestParser {
     }
 }
 
-/// The token trees of a text by a rule of the meta-grammar; a grammar is read by [`Rule::grammar_rules`].
+/// Returns the token trees of a text by a rule of pest's grammar of grammars. A grammar is read by
+/// [`Rule::grammar_rules`].
 ///
-/// The trees are those that the proved front end tells, and the only ones that the text has. A refusal stands
-/// at the furthest place where a rule failed, and has the rules that were expected there.
+/// The trees are those that the proved front end returns, and the only ones that the text has.
+///
+/// # Errors
+/// The syntax error of the text. It is at the furthest position at which a rule failed, and has the rules
+/// that were expected there.
 pub fn parse(rule: Rule, data: &str) -> Result<Pairs<'_, Rule>, Error<Rule>> {
     let entries = answers::tokens(data, rule)?;
     pest::state(data, |state| replayed(state, data, &entries, 0..entries.len()))
@@ -65,31 +69,31 @@ fn moved<'i>(state: State<'i>, text: &str, place: usize) -> ParseResult<State<'i
     state.match_string(&text[from..place])
 }
 
-/// A rule of a grammar with its places.
+/// A rule of a grammar with its spans.
 #[derive(Clone, Debug, Eq, PartialEq)]
 pub struct ParserRule<'i> {
-    /// Its name.
+    /// The name of the rule.
     pub name: String,
-    /// Where its name stands.
+    /// The span of its name.
     pub span: Span<'i>,
-    /// What kind of rule it is.
+    /// The type of the rule.
     pub ty: RuleType,
-    /// Its body.
+    /// The body of the rule.
     pub node: ParserNode<'i>,
 }
 
-/// An expression with its place.
+/// An expression with its span.
 #[derive(Clone, Debug, Eq, PartialEq)]
 pub struct ParserNode<'i> {
     /// The expression.
     pub expr: ParserExpr<'i>,
-    /// Where it stands.
+    /// The span of the expression.
     pub span: Span<'i>,
 }
 
 impl<'i> ParserNode<'i> {
-    /// What `f` answers of the node and of all that stand in it, each before what stands in it, the left side
-    /// before the right.
+    /// Returns the results of `f` for the node and all nodes inside it, each before those inside it, and the
+    /// left side before the right one.
     pub fn filter_map_top_down<F, T>(self, mut f: F) -> Vec<T>
     where
         F: FnMut(ParserNode<'i>) -> Option<T>,
@@ -105,44 +109,44 @@ impl<'i> ParserNode<'i> {
     }
 }
 
-/// An expression whose operands have their places.
+/// An expression whose operands have their spans.
 #[derive(Clone, Debug, Eq, PartialEq)]
 pub enum ParserExpr<'i> {
-    /// That text: `"a"`.
+    /// Matches that text: `"a"`.
     Str(String),
-    /// That text, with ASCII letters of either case: `^"a"`.
+    /// Matches that text, with ASCII letters of either case: `^"a"`.
     Insens(String),
-    /// A character of the range: `'a'..'z'`.
+    /// Matches a character of the range: `'a'..'z'`.
     Range(String, String),
-    /// The rule or the builtin of that name: `a`.
+    /// Calls the rule or the builtin with that name: `a`.
     Ident(String),
-    /// Entries of the stack: `PEEK[0..-1]`, or `PEEK[0..]`.
+    /// Matches entries of the stack: `PEEK[0..-1]`, or `PEEK[0..]`.
     PeekSlice(i32, Option<i32>),
-    /// What comes has to match: `&e`.
+    /// Succeeds if the expression matches, and consumes nothing: `&e`.
     PosPred(Box<ParserNode<'i>>),
-    /// What comes may not match: `!e`.
+    /// Succeeds if the expression does not match, and consumes nothing: `!e`.
     NegPred(Box<ParserNode<'i>>),
-    /// One and then the other: `a ~ b`.
+    /// Matches one expression and then the other: `a ~ b`.
     Seq(Box<ParserNode<'i>>, Box<ParserNode<'i>>),
-    /// One or, where it fails, the other: `a | b`.
+    /// Matches one expression, or the other one if the first fails: `a | b`.
     Choice(Box<ParserNode<'i>>, Box<ParserNode<'i>>),
-    /// Once or not at all: `e?`.
+    /// Matches the expression or nothing: `e?`.
     Opt(Box<ParserNode<'i>>),
-    /// As often as it matches: `e*`.
+    /// Repeats the expression as long as it matches: `e*`.
     Rep(Box<ParserNode<'i>>),
-    /// As often as it matches, and once at least: `e+`.
+    /// Repeats the expression as long as it matches, at least once: `e+`.
     RepOnce(Box<ParserNode<'i>>),
-    /// So often: `e{2}`.
+    /// Repeats the expression this number of times: `e{2}`.
     RepExact(Box<ParserNode<'i>>, u32),
-    /// So often at least: `e{2,}`.
+    /// Repeats the expression at least this number of times: `e{2,}`.
     RepMin(Box<ParserNode<'i>>, u32),
-    /// So often at most: `e{,2}`.
+    /// Repeats the expression at most this number of times: `e{,2}`.
     RepMax(Box<ParserNode<'i>>, u32),
-    /// From so often to so often: `e{2, 3}`.
+    /// Repeats the expression between the first and the second number of times: `e{2, 3}`.
     RepMinMax(Box<ParserNode<'i>>, u32, u32),
-    /// What matches is pushed on the stack: `PUSH(e)`.
+    /// Pushes the text that the expression matches on the stack: `PUSH(e)`.
     Push(Box<ParserNode<'i>>),
-    /// The text is pushed on the stack: `PUSH_LITERAL("a")`.
+    /// Pushes the text on the stack: `PUSH_LITERAL("a")`.
     #[cfg(feature = "grammar-extras")]
     PushLiteral(String),
     /// An expression with a tag: `#tag = e`.
@@ -210,7 +214,10 @@ impl<'i> Tree for ParserNode<'i> {
     }
 }
 
-/// The rules of a grammar's pairs, or what is wrong with them.
+/// Returns the rules of a grammar's pairs.
+///
+/// # Errors
+/// The first flaw of the rules, or else all their errors.
 pub fn consume_rules(pairs: Pairs<'_, Rule>) -> Result<Vec<AstRule>, Vec<Error<Rule>>> {
     let Some(grammar) = readable(pairs)? else {
         return Ok(Vec::new());
@@ -218,8 +225,11 @@ pub fn consume_rules(pairs: Pairs<'_, Rule>) -> Result<Vec<AstRule>, Vec<Error<R
     answers::grammar_rules(grammar, AstRule::try_from)
 }
 
-/// The rules of a grammar's pairs with the place of each node, or the first flaw for which they can't be
-/// read. [`crate::validator::validate_ast`] tells what is wrong with rules that are read.
+/// Returns the rules of a grammar's pairs with the span of each node. [`crate::validator::validate_ast`]
+/// returns the errors of these rules.
+///
+/// # Errors
+/// The first flaw, for which the pairs cannot be read as rules.
 pub fn consume_rules_with_spans(pairs: Pairs<'_, Rule>) -> Result<Vec<ParserRule<'_>>, Vec<Error<Rule>>> {
     let Some(grammar) = readable(pairs)? else {
         return Ok(Vec::new());
@@ -275,7 +285,8 @@ fn readable(pairs: Pairs<'_, Rule>) -> Result<Option<Span<'_>>, Vec<Error<Rule>>
     Ok(grammar_of(&pairs))
 }
 
-/// What errors call a rule: a sign between grave accents, a word for a few, and its own name for any other.
+/// Returns the words of errors for a rule: a sign between grave accents, a word for some rules, and the name
+/// for any other rule.
 pub fn rename_meta_rule(rule: &Rule) -> String {
     let name = match rule {
         Rule::grammar_rule => "rule",

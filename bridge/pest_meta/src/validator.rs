@@ -1,8 +1,8 @@
-//! What is wrong with a grammar's names and its rules.
+//! The errors of a grammar's names and of its rules.
 //!
-//! Each call asks the proved front end. The calls over spans and over rules write what they are handed as a
-//! grammar, ask about that, and tell what is said of its pieces where the pieces stand. So they speak of what
-//! they are handed, and of nothing else in the text.
+//! Each call asks the proved front end. The calls that get spans or rules print these as a grammar, and ask
+//! about that grammar. They report an error of a part at the span of that part. So the errors are about the
+//! arguments, and about nothing else in the text.
 
 use std::ops::Range;
 
@@ -17,8 +17,11 @@ use crate::nodes::{flat, Node, Tree};
 use crate::parser::{grammar_of, ParserNode, ParserRule, Rule};
 use crate::printing::{spelled, BareSide};
 
-/// The names of the builtins that a grammar uses, in the order of their first calls, or the errors of its
-/// names: keywords of pest as names of rules, names defined twice, and names that are defined nowhere.
+/// Returns the names of the builtins that a grammar uses, in the order of their first calls.
+///
+/// # Errors
+/// The errors of its names: keywords of pest as names of rules, names that are defined twice, and names that
+/// are defined nowhere.
 pub fn validate_pairs(pairs: Pairs<'_, Rule>) -> Result<Vec<&str>, Vec<Error<Rule>>> {
     match grammar_of(&pairs) {
         Some(grammar) => Ok(in_text(grammar.as_str(), &answers::names(grammar)?)),
@@ -32,28 +35,28 @@ pub(crate) fn in_text<'i>(text: &'i str, names: &[String]) -> Vec<&'i str> {
     names.iter().map(|name| piece(name).expect("a used name stands in the text")).collect()
 }
 
-/// Tells which of the names are keywords of Rust.
+/// Returns an error for each name that is a keyword of Rust.
 ///
-/// They are allowed, so no other call tells them.
+/// Such names are allowed, so no other call reports them.
 #[allow(clippy::ptr_arg)]
 #[deprecated = "keywords of Rust are allowed as names of rules"]
 pub fn validate_rust_keywords(definitions: &Vec<Span<'_>>) -> Vec<Error<Rule>> {
     definitions.iter().flat_map(|name| answers::rust_keyword(*name)).collect()
 }
 
-/// Tells which of the names are keywords of pest.
+/// Returns an error for each name that is a keyword of pest.
 #[allow(clippy::ptr_arg)]
 pub fn validate_pest_keywords(definitions: &Vec<Span<'_>>) -> Vec<Error<Rule>> {
     told_of(definitions, &[], " is a pest keyword")
 }
 
-/// Tells which of the names are defined before.
+/// Returns an error for each name that is defined before.
 #[allow(clippy::ptr_arg)]
 pub fn validate_already_defined(definitions: &Vec<Span<'_>>) -> Vec<Error<Rule>> {
     told_of(definitions, &[], " already defined")
 }
 
-/// Tells which of the called names are neither defined nor builtins.
+/// Returns an error for each called name that is neither defined nor a builtin.
 #[allow(clippy::ptr_arg)]
 pub fn validate_undefined<'i>(definitions: &Vec<Span<'i>>, called_rules: &Vec<Span<'i>>) -> Vec<Error<Rule>> {
     told_of(definitions, called_rules, " is undefined")
@@ -116,11 +119,11 @@ fn told_of(definitions: &[Span<'_>], called: &[Span<'_>], words: &str) -> Vec<Er
     told
 }
 
-/// What is wrong with rules, in the order of places: repetitions that never end, alternatives that are never
-/// taken, bad `WHITESPACE` and `COMMENT`, left recursion, and tags on what gives no token.
+/// Returns the errors of rules, in the order of their spans: repetitions that never end, unreachable
+/// alternatives, a nullable `WHITESPACE` or `COMMENT`, left recursion, and tags on what gives no token.
 ///
-/// The rules count as they are handed in, whatever the text says at their spans. An error that is not of a
-/// node, of rules that no text spells, is told at the name of the rule.
+/// The rules count as they are given, whatever the text has at their spans. If an error is about no node, it
+/// is reported at the name of the rule.
 #[allow(clippy::ptr_arg)]
 pub fn validate_ast<'a, 'i: 'a>(rules: &'a Vec<ParserRule<'i>>) -> Vec<Error<Rule>> {
     if rules.is_empty() {

@@ -22,7 +22,7 @@
 //! | The original | Here |
 //! |---|---|
 //! | `PEEK` or `POP` on the empty stack panics | an error at the start of the text |
-//! | a rule takes any time, unless `pest::set_call_limit` was called | after 32 steps a byte and 16,384 more a guided run takes its place, which tells in a number of turns that is linear in the text whether the rule matches; a rule that comes to an operation on the stack takes any time |
+//! | a rule takes any time, unless `pest::set_call_limit` was called | a rule that uses the stack does; any other takes time that is linear in the text and the pairs |
 //! | an error names its rules after any time | where 2^23 steps, and 32 more for each byte, do not find them, it says so at the furthest position of a failure |
 //! | the listener is called at each call of a rule | at each token of a match, in the order of their starts |
 //! | a builtin can be parsed as a rule | another name than a rule's panics, as an undefined rule does there |
@@ -58,6 +58,8 @@ type Listener = Box<dyn Fn(String, &Position<'_>) -> bool + Sync + Send + RefUnw
 pub struct Vm {
     /// The compiled rules. There are none where they have a range of no characters.
     block: Option<Vec<u8>>,
+    /// The rules as errors in detail need them.
+    source: Vec<u8>,
     /// The same with their tags, if they have any.
     tagged: Option<TaggedBlock>,
     /// The name of each row, `EOI` last.
@@ -73,6 +75,7 @@ impl Vm {
     /// # Panics
     /// Where memory is refused.
     pub fn new(mut rules: Vec<OptimizedRule>) -> Vm {
+        let own = rules.len();
         let mut block = matching::compile(&rules).ok();
         let mut undefined = HashMap::new();
         if block.is_none() {
@@ -87,9 +90,10 @@ impl Vm {
             undefined = matching::rules_that_reach(&rules, count);
             block = matching::compile(&rules).ok();
         }
+        let source = matching::source(&rules[..own], &rules[own..]);
         let tagged = matching::compile_tagged(&rules, false).ok().flatten();
         let names = rules.into_iter().map(|rule| rule.name).chain(["EOI".to_owned()]).collect();
-        Vm { block, tagged, names, undefined, listener: None }
+        Vm { block, source, tagged, names, undefined, listener: None }
     }
 
     /// Makes a machine whose listener is called for each token of a match, in the order of their starts, with the
@@ -119,7 +123,7 @@ impl Vm {
         let tags: Vec<&str> =
             self.tagged.iter().flat_map(|tagged| &tagged.tags).map(String::as_str).collect();
         let tagged = self.tagged.as_ref().map(|tagged| Tagged { block: &tagged.block, tags: &tags });
-        let pairs = machine::parse_block(block, tagged, row as u32, input, names)?;
+        let pairs = machine::parse_block(block, &self.source, tagged, row as u32, input, names)?;
         match self.stopped_at(&pairs) {
             Some(position) => {
                 let variant = ErrorVariant::ParsingError { positives: Vec::new(), negatives: Vec::new() };

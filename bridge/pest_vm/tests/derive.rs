@@ -222,17 +222,6 @@ fn no_text_makes_a_machine_slow() {
 }
 
 #[test]
-fn a_grammar_that_uses_the_stack_has_a_limit() {
-    let grammar = include_str!("grammars/nested.pest").replace(r#"| "x""#, r#"| PUSH("x") ~ DROP"#);
-    let (vm, text) = (machine(&grammar), nested_lists(2_000));
-    let error = vm.parse("list", &text).unwrap_err();
-    assert_eq!(
-        error.variant,
-        ErrorVariant::CustomError { message: "the rule takes too many steps".to_owned() }
-    );
-}
-
-#[test]
 fn a_failure_has_its_position_and_what_was_expected() {
     let vm = machine(include_str!("grammars/lists.pest"));
     let error = vm.parse("file", "[a, .]").unwrap_err();

@@ -60,7 +60,7 @@ impl<'i, R: RuleType> Pair<'i, R> {
         Tokens::new(self.tree, self.at, end)
     }
 
-    /// Returns the pair as JSON, in lines. No depth of pairs takes stack.
+    /// Returns the pair as JSON, in lines. The depth of pairs takes no stack of the process.
     #[cfg(feature = "pretty-print")]
     pub fn to_json(&self) -> String {
         super::json::pair(&self.tree, self.at)
@@ -68,7 +68,8 @@ impl<'i, R: RuleType> Pair<'i, R> {
 
     /// Returns the line and the column where the pair starts, both from 1.
     ///
-    /// The first call for a match takes as long as to go through the text once. The others take a few steps each.
+    /// The first call for a match takes time that is linear in the bytes of the text. Each further call takes a few
+    /// steps.
     pub fn line_col(&self) -> (usize, usize) {
         self.tree.line_col(self.at)
     }
@@ -91,7 +92,7 @@ impl<R: RuleType> fmt::Display for Pair<'_, R> {
     }
 }
 
-/// Pairs are equal where they are the same one of the same match.
+/// Two pairs are equal if they are the same pair of the same match.
 impl<R: PartialEq> PartialEq for Pair<'_, R> {
     fn eq(&self, other: &Self) -> bool {
         self.tree == other.tree && self.at == other.at

@@ -8,7 +8,7 @@ use kingorewa_library::code::{Node, Nodes};
 use super::{Pairs, Rules, Tree};
 use crate::RuleType;
 
-/// Pairs that are put together by hand, as for tests of what reads them.
+/// Pairs that a program puts together, for example in a test of code that reads pairs.
 ///
 /// ```
 /// use pest::iterators::PairsBuilder;
@@ -39,28 +39,28 @@ struct Lists<'i, R> {
 }
 
 impl<'i, R: RuleType> PairsBuilder<'i, R> {
-    /// Makes a builder of pairs of a text that has none yet.
+    /// Makes a builder of pairs for a text. It has no pairs yet.
     ///
     /// # Panics
-    /// Where the text has 4 GiB or more.
+    /// If the text has 4 GiB or more.
     pub fn new(input: &'i str) -> Self {
         assert!(u32::try_from(input.len()).is_ok(), "texts of 4 GiB and more have no pairs");
         PairsBuilder { text: input, lists: Rc::default(), first: 0, last: None }
     }
 
-    /// Adds a pair between two bytes, with none inside.
+    /// Adds a pair between two bytes, with no pairs inside it.
     ///
     /// # Panics
-    /// Where the bytes are no span of the text.
+    /// If the bytes are no span of the text.
     pub fn rule(mut self, rule: R, start: usize, end: usize) -> Self {
         self.add(rule, start, end);
         self
     }
 
-    /// Adds a pair between two bytes, with those inside that a function adds to a builder.
+    /// Adds a pair between two bytes. The function adds the pairs inside it.
     ///
     /// # Panics
-    /// Where the bytes are no span of the text.
+    /// If the bytes are no span of the text.
     pub fn rule_with<F>(mut self, rule: R, start: usize, end: usize, build_children: F) -> Self
     where
         F: FnOnce(PairsBuilder<'i, R>) -> PairsBuilder<'i, R>,
@@ -80,7 +80,7 @@ impl<'i, R: RuleType> PairsBuilder<'i, R> {
     /// Gives a tag to the pair that was added last.
     ///
     /// # Panics
-    /// Where none was.
+    /// If no pair was added.
     pub fn tag(self, tag: &'i str) -> Self {
         let last = self.last.expect("PairsBuilder::tag called before any rule was added");
         self.lists.borrow_mut().tags[last] = Some(tag);

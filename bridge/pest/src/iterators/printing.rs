@@ -1,4 +1,4 @@
-//! Pairs as texts. Each function is a loop, so that no depth of a tree takes stack.
+//! Pairs as texts. Each function is a loop, so the depth of a tree takes no stack of the process.
 use alloc::format;
 use core::fmt::{self, Formatter};
 

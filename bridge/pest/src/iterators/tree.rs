@@ -10,7 +10,7 @@ use kingorewa_library::code::{self, Node};
 
 use super::line_index::LineIndex;
 
-/// The rules by their rows. They are no function, so that pairs may be dropped after what they speak of, as pest's may.
+/// The rules by their indexes (`row`). They are no function, so that pairs may outlive what they refer to, as in pest.
 pub(crate) enum Rules<'i, R> {
     /// Those of a derive.
     Table(&'i [R]),
@@ -18,12 +18,12 @@ pub(crate) enum Rules<'i, R> {
     List(Box<[R]>),
 }
 
-/// The nodes of a match, with what they stand for.
+/// The nodes of a match, with their text, rules and tags.
 struct Nodes<'i, R> {
     text: &'i str,
     list: code::Nodes,
     rules: Rules<'i, R>,
-    /// The tag of each node, or nothing where none has one.
+    /// The tag of each node. The list is empty if no node has a tag.
     tags: Vec<Option<&'i str>>,
     /// Made when a line is first asked for.
     lines: OnceCell<LineIndex>,
@@ -39,7 +39,8 @@ impl<R: RefUnwindSafe> UnwindSafe for Tree<'_, R> {}
 impl<R: RefUnwindSafe> RefUnwindSafe for Tree<'_, R> {}
 
 impl<'i, R> Tree<'i, R> {
-    /// Makes a tree of the nodes of a text, of the rules of their rows, and of their tags, which may be none.
+    /// Makes a tree from the nodes of a text, the rules by their indexes, and the tags of the nodes. The list of tags
+    /// may be empty.
     pub(crate) fn new(
         text: &'i str,
         list: code::Nodes,
@@ -110,7 +111,7 @@ impl<R> Clone for Tree<'_, R> {
     }
 }
 
-/// Trees are equal where they are of the same match.
+/// Two trees are equal if they are of the same match.
 impl<R> PartialEq for Tree<'_, R> {
     fn eq(&self, other: &Self) -> bool {
         Rc::ptr_eq(&self.0, &other.0)
