@@ -1,3 +1,4 @@
 pub mod Diagnosis
 pub mod Differences
+pub mod Fixing
 pub mod Messages

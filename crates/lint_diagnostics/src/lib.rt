@@ -4,6 +4,7 @@
 
 mod comparer;
 mod difference;
+mod fixes;
 mod samples;
 mod texts;
 
@@ -24,10 +25,13 @@ ghost use Rattle.pest_meta.specs.Spelling.{HasAnswer};
 
 pub use crate::comparer::Comparer;
 pub use crate::difference::{Difference, RuleEnd};
+pub use crate::fixes::fix_text;
 use base_language::runtime::Span;
 use front_names::Builtin;
 use front_spanned::ParserRule;
-pub use lint_findings::{Code, Diagnostic, Fix, Help, Options, Related, Severity};
+pub use lint_findings::{
+    Applicability, Applied, Code, Diagnostic, Fix, Help, Mended, Options, Related, Severity,
+};
 use lint_findings::{
     Fragment, diagnose_all_rules, diagnose_list, diagnose_refusal, diagnose_rules, diagnose_starts,
     leave_out_allowed, stated_starts,

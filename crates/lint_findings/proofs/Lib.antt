@@ -1,5 +1,6 @@
 pub mod Above
 pub mod Allowed
+pub mod Fixing
 pub mod Helping
 pub mod Named
 pub mod OneCode

@@ -20,22 +20,25 @@ use Rattle.lint_warnings.specs.Suspects.{suspects}
 use Rattle.lint_warnings.specs.Tokens.{blanks_in_tokens}
 use Rattle.lint_warnings.specs.declared.suspects.Suspect.TheVariants as suspect
 
--- the facts of a code: its name, how its diagnostics are reported, and the spans at which rules, of which
--- those of some names are starts, have a warning of it
+-- the facts of a code: its name, how its diagnostics are reported, the message of its warnings, and the spans
+-- at which rules, of which those of some names are starts, have a warning of it
 pub record Facts : Type 0 where
   pub name : List ℕ
   pub report : Report
+  pub message : List ℕ
   pub spans : List Text → List SpannedRule → List Span
 
 -- of an error, of a warning, and of one that is reported where all are asked for
 abbrev pub error : List ℕ → Facts
-error name = record { name = name; report = report.Error; spans = λ starts rules. [] }
+error name = record { name = name; report = report.Error; message = []; spans = λ starts rules. [] }
 
-abbrev pub warned : List ℕ → (List Text → List SpannedRule → List Span) → Facts
-warned name spans = record { name = name; report = report.Warning; spans = spans }
+abbrev pub warned : List ℕ → List ℕ → (List Text → List SpannedRule → List Span) → Facts
+warned name message spans =
+    record { name = name; report = report.Warning; message = message; spans = spans }
 
-abbrev pub on_request : List ℕ → (List SpannedRule → List Span) → Facts
-on_request name spans = record { name = name; report = report.OnRequest; spans = λ starts. spans }
+abbrev pub on_request : List ℕ → List ℕ → (List SpannedRule → List Span) → Facts
+on_request name message spans =
+    record { name = name; report = report.OnRequest; message = message; spans = λ starts. spans }
 
 -- of a warning that is not of rules alone
 abbrev pub nowhere : List Text → List SpannedRule → List Span
@@ -58,24 +61,43 @@ facts_of code.LeftRecursion = error (codes "pest::left_recursion")
 facts_of code.EndlessRepetition = error (codes "pest::endless_repetition")
 facts_of code.UnreachableChoice = error (codes "pest::unreachable_choice")
 facts_of code.TagWithoutToken = error (codes "pest::tag_without_token")
-facts_of code.UnusedAllowance = warned (codes "pest::unused_allowance") nowhere
-facts_of code.UncalledRule = warned (codes "pest::uncalled_rule") uncalled_rules
-facts_of code.MissingEnd = warned (codes "pest::missing_end") open_starts
-facts_of code.UnknownStart = warned (codes "pest::unknown_start") nowhere
-facts_of code.Unreachable = warned (codes "pest::unreachable") (λ starts. first_unreachable)
-facts_of code.ReversedRange = warned (codes "pest::reversed_range") (λ starts. suspects suspect.ReversedRange)
-facts_of code.ReversedCount = warned (codes "pest::reversed_count") (λ starts. suspects suspect.ReversedCount)
-facts_of code.IdleTest = warned (codes "pest::idle_test") (λ starts. suspects suspect.IdleTest)
-facts_of code.NeverMatches = warned (codes "pest::never_matches") (λ starts. suspects suspect.Unmatchable)
-facts_of code.BlanksInToken = warned (codes "pest::blanks_in_token") (λ starts. blanks_in_tokens)
-facts_of code.ManyCopies = warned (codes "pest::many_copies") (λ starts. many_copies)
-facts_of code.RepeatedAlternative =
-    warned (codes "pest::repeated_alternative") (λ starts. repeated_alternatives)
-facts_of code.RewrittenList = warned (codes "pest::rewritten_list") nowhere
-facts_of code.KeywordName = on_request (codes "pest::keyword_name") (named_rules is_keyword)
-facts_of code.BuiltinName = on_request (codes "pest::builtin_name") (named_rules is_builtin_name)
-facts_of code.RepeatedBody = on_request (codes "pest::repeated_body") repeated_bodies
-facts_of code.StackRead = on_request (codes "pest::stack_read") (suspects suspect.StackRead)
+facts_of code.UnusedAllowance = warned (codes "pest::unused_allowance")
+    (codes "this allows nothing in the rule below") nowhere
+facts_of code.UncalledRule = warned (codes "pest::uncalled_rule")
+    (codes "this rule is never used") uncalled_rules
+facts_of code.MissingEnd = warned (codes "pest::missing_end")
+    (codes "start rule doesn't require EOI, so it can stop before the end of the input") open_starts
+facts_of code.UnknownStart = warned (codes "pest::unknown_start")
+    (codes "no rule has this name") nowhere
+facts_of code.Unreachable = warned (codes "pest::unreachable")
+    (codes "unreachable: an earlier alternative matches a prefix of everything this one matches")
+    (λ starts. first_unreachable)
+facts_of code.ReversedRange = warned (codes "pest::reversed_range")
+    (codes "this range is empty: its first character is greater than its last")
+    (λ starts. suspects suspect.ReversedRange)
+facts_of code.ReversedCount = warned (codes "pest::reversed_count")
+    (codes "the first number is greater than the last, and is ignored")
+    (λ starts. suspects suspect.ReversedCount)
+facts_of code.IdleTest = warned (codes "pest::idle_test")
+    (codes "this has no effect, since its operand cannot fail") (λ starts. suspects suspect.IdleTest)
+facts_of code.NeverMatches = warned (codes "pest::never_matches")
+    (codes "this never matches") (λ starts. suspects suspect.Unmatchable)
+facts_of code.BlanksInToken = warned (codes "pest::blanks_in_token")
+    (codes "implicit whitespace is allowed between these characters") (λ starts. blanks_in_tokens)
+facts_of code.ManyCopies = warned (codes "pest::many_copies")
+    (codes "the optimizer makes 10,000 copies or more of what this repeats") (λ starts. many_copies)
+facts_of code.RepeatedAlternative = warned (codes "pest::repeated_alternative")
+    (codes "unreachable: this alternative is the same as an earlier one") (λ starts. repeated_alternatives)
+facts_of code.RewrittenList = warned (codes "pest::rewritten_list")
+    (codes "pest runs a list `(x ~ y)* ~ x` of this rule as `x ~ (y ~ x)*`") nowhere
+facts_of code.KeywordName = on_request (codes "pest::keyword_name")
+    (codes "Rust keeps this name for itself") (named_rules is_keyword)
+facts_of code.BuiltinName = on_request (codes "pest::builtin_name")
+    (codes "this name is that of a builtin") (named_rules is_builtin_name)
+facts_of code.RepeatedBody = on_request (codes "pest::repeated_body")
+    (codes "a rule before this one has the same type and body") repeated_bodies
+facts_of code.StackRead = on_request (codes "pest::stack_read")
+    (codes "the stack is read: the time of a match has no bound that is known") (suspects suspect.StackRead)
 
 -- all codes, in order
 abbrev pub all_codes : List Code
@@ -92,6 +114,9 @@ code_name c = (facts_of c).name
 
 abbrev pub report_of : Code → Report
 report_of c = (facts_of c).report
+
+abbrev pub message_of : Code → List ℕ
+message_of c = (facts_of c).message
 
 abbrev pub spans_of : Code → List Text → List SpannedRule → List Span
 spans_of c = (facts_of c).spans

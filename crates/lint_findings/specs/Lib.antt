@@ -1,5 +1,6 @@
 pub mod Allowances
 pub mod Codes
+pub mod Fixes
 pub mod Fragments
 pub mod Helps
 pub mod Names

@@ -17,7 +17,7 @@ use Rattle.front_reader.specs.declared.rules.flaws.Flaw.{Flaw}
 use Rattle.front_syntax.specs.ExpectedRules.{AreExpected}
 use Rattle.front_validator.specs.Reporting.{finding_of}
 use Rattle.front_validator.specs.declared.problems.RuleFinding.{RuleFinding}
-use Rattle.lint_findings.specs.Codes.{Warning}
+use Rattle.lint_findings.specs.Codes.{Warning, message_of}
 use Rattle.lint_findings.specs.Helps.{IsHelpOf}
 use Rattle.lint_findings.specs.Problems.{flaw_code, name_code, rule_code}
 use Rattle.lint_findings.specs.declared.codes.Code.{Code}
@@ -86,9 +86,10 @@ ReportsRefusal text (refusal.Flaw flaw) diagnostics = AllZip ReportsFlawFound (f
 ReportsRefusal text (refusal.Rules findings) diagnostics =
     AllZip ReportsRuleFinding findings.items diagnostics
 
--- the diagnostic reports a warning; messages and helps are tested by examples/lint
+-- the diagnostic reports a warning, with the message of its code; helps are tested by examples/lint
 pub record ReportsWarning (warning : Warning) (diagnostic : Diagnostic) : Type 0 where
   pub severity : diagnostic.severity ≡ severity.Warning
   pub code : diagnostic.code ≡ warning.code
+  pub message : string_bytes diagnostic.message ≡ message_of warning.code
   pub start : diagnostic.start ≡ warning.span.start
   pub end : diagnostic.end ≡ warning.span.end

@@ -9,6 +9,7 @@ ghost use Rattle.lint_warnings.specs.Groups.{pieces_of};
 
 use crate::codes::Code;
 use crate::diagnostic::Diagnostic;
+use crate::remedies::{add_fix, remove_alternative, reorder};
 use crate::repeats::repeated_leaves;
 use crate::warnings::report_span;
 use front_spanned::ParserRule;
@@ -54,6 +55,12 @@ fn add_choice(
     let is_repeat = repeats.contains(&first.start());
     let mut diagnostic = report_span(alloc, Code::Unreachable, *first, is_repeat)?;
     diagnostic.related = notes_on(alloc, choice)?;
+    let fix = if is_repeat {
+        remove_alternative(alloc, *first)?
+    } else {
+        reorder(alloc, choice)?
+    };
+    diagnostic.help = add_fix(diagnostic.help, fix);
     diagnostics.push(diagnostic)?;
     Ok(())
 }
@@ -63,7 +70,7 @@ fn add_choice(
 fn notes_on(alloc: Global, choice: &UnreachableChoice<'_>) -> Result<Vec<Related>, AllocError> {
     let mut notes = Vec::new(alloc);
     if let Some((start, end)) = choice.begun_by {
-        let message = "this one begins all that it matches";
+        let message = "this alternative matches first";
         notes.push(Related::new(alloc, start, end, message)?)?;
     }
     if let Some(span) = choice.spans.get(1) {
@@ -76,7 +83,7 @@ fn notes_on(alloc: Global, choice: &UnreachableChoice<'_>) -> Result<Vec<Related
 /// That so many further alternatives are never taken.
 fn count_message(alloc: Global, count: usize) -> Result<String, AllocError> {
     if count == 1 {
-        return String::from_str(alloc, "one more of this choice is never taken: this one");
+        return String::from_str(alloc, "this alternative is unreachable too");
     }
-    format!(in alloc; "{count} more of this choice are never taken, this one first")
+    format!(in alloc; "{count} more alternatives are unreachable, this one first")
 }

@@ -1,7 +1,8 @@
 //! The codes of diagnostics.
 ghost use Rattle.std.specs.Prelude.{◌≡◌, ◌++◌, IfNone, IfSome, bytes_eq, true};
 ghost use Rattle.lint_findings.specs.Codes as spec;
-ghost use Rattle.lint_findings.specs.Codes.{IsUnknown, code_name, has_name, is_optional, severity_of};
+ghost use Rattle.lint_findings.specs.Codes.{IsUnknown, code_name, has_name, is_optional, message_of};
+ghost use Rattle.lint_findings.specs.Codes.{severity_of};
 ghost use Rattle.lint_findings.specs.Codes.{is_on_request, severity_as, severity_name};
 
 use crate::facts::{all_facts, facts_of};
@@ -168,8 +169,10 @@ impl Code {
     }
 
     /// The message of its warnings; nothing of an error, which has a message of its own.
-    pub fn message(self) -> &'static str {
-        facts_of(self).message.unwrap_or("")
+    pub fn message(self) -> &'static str
+        ensures { result.now ≡ message_of self }
+    {
+        facts_of(self).message
     }
 
     /// Its page: when it is reported, an example, and how to mend it.

@@ -1,6 +1,6 @@
 //! The table of codes.
 ghost use Rattle.std.specs.Prelude.{◌≡◌, map};
-ghost use Rattle.lint_findings.specs.Codes.{all_codes, code_name, report_of};
+ghost use Rattle.lint_findings.specs.Codes.{all_codes, code_name, message_of, report_of};
 
 use crate::codes::{Code, Report};
 
@@ -10,10 +10,12 @@ pub struct Facts {
     pub code: Code,
     /// Its name, as `pest::left_recursion`.
     pub name: &'static str,
+    /// The fault in a few words.
+    pub summary: &'static str,
     /// How diagnostics of it are reported.
     pub report: Report,
-    /// The message of its warnings. Errors have messages of their own.
-    pub message: Option<&'static str>,
+    /// The message of its warnings; nothing of an error, which has a message of its own.
+    pub message: &'static str,
     /// How it is mended, where that depends on nothing else.
     pub help: Option<&'static str>,
     /// When it is reported, an example, and how to mend it.
@@ -25,17 +27,19 @@ static FACTS: [Facts; 29] = [
     Facts {
         code: Code::Syntax,
         name: "pest::syntax",
+        summary: "the text is not a valid grammar",
         report: Report::Error,
-        message: None,
+        message: "",
         help: None,
-        page: "The text is no grammar. The position is where reading came furthest; the expected names are \
-               those of pest's own grammar. A help shows how known mistakes are mended.",
+        page: "The text is not a valid grammar. The position is where reading came furthest; the expected \
+               names are those of pest's own grammar. A help shows how known mistakes are mended.",
     },
     Facts {
         code: Code::EscapeValue,
         name: "pest::escape_value",
+        summary: "an escape names no character",
         report: Report::Error,
-        message: None,
+        message: "",
         help: Some("D800 to DFFF and what is above 10FFFF are no characters"),
         page: "An escape names no character.\n\n    \
                a = { \"\\u{D800}\" }\n\n\
@@ -44,8 +48,9 @@ static FACTS: [Facts; 29] = [
     Facts {
         code: Code::NumberRange,
         name: "pest::number_range",
+        summary: "a number does not fit 32 bits",
         report: Report::Error,
-        message: None,
+        message: "",
         help: None,
         page: "A number does not fit 32 bits.\n\n    \
                a = { \"x\"{5000000000} }",
@@ -53,45 +58,50 @@ static FACTS: [Facts; 29] = [
     Facts {
         code: Code::ZeroRepetition,
         name: "pest::zero_repetition",
+        summary: "an expression is repeated 0 times",
         report: Report::Error,
-        message: None,
-        help: Some("what takes nothing is written `\"\"`"),
+        message: "",
+        help: Some("use `\"\"` to match the empty string"),
         page: "An expression is repeated zero times, which would take nothing.\n\n    \
-               a = { \"x\"{0} }\n\nWhat takes nothing is written \"\".",
+               a = { \"x\"{0} }\n\nUse \"\" to match the empty string.",
     },
     Facts {
         code: Code::ReservedName,
         name: "pest::reserved_name",
+        summary: "a rule has a name that is reserved",
         report: Report::Error,
-        message: None,
-        help: Some("take another name: pest has a meaning for this one"),
+        message: "",
+        help: Some("use another name: pest has a meaning for this one"),
         page: "A rule has a name that pest keeps for itself.\n\n    \
                ANY = { \"x\" }",
     },
     Facts {
         code: Code::DuplicateRule,
         name: "pest::duplicate_rule",
+        summary: "two rules have one name",
         report: Report::Error,
-        message: None,
-        help: Some("take one of them away, or write both as alternatives: `a = { b | c }`"),
+        message: "",
+        help: Some("remove one of them, or write both as alternatives: `a = { b | c }`"),
         page: "Two rules have one name.\n\n    \
                a = { \"x\" }\n    a = { \"y\" }",
     },
     Facts {
         code: Code::UndefinedRule,
         name: "pest::undefined_rule",
+        summary: "a name is neither a rule nor a builtin",
         report: Report::Error,
-        message: None,
+        message: "",
         help: None,
-        page: "A name is called that is no rule and no builtin.\n\n    \
+        page: "This name is neither a rule nor a builtin.\n\n    \
                a = { asci_digit+ }\n\n\
                Names of builtins are in capitals, as ASCII_DIGIT.",
     },
     Facts {
         code: Code::MissingProperty,
         name: "pest::missing_property",
+        summary: "a Unicode property of pest is not supported here",
         report: Report::Error,
-        message: None,
+        message: "",
         help: None,
         page: "A Unicode property is called that pest has and this front end has not: a property of emoji, \
                most scripts, and some others.\n\n    a = { EMOJI }\n\n\
@@ -100,8 +110,9 @@ static FACTS: [Facts; 29] = [
     Facts {
         code: Code::LeftRecursion,
         name: "pest::left_recursion",
+        summary: "a rule calls itself before it takes a character",
         report: Report::Error,
-        message: None,
+        message: "",
         help: Some("write the operand first and repeat the rest: `a = { b ~ (\"+\" ~ b)* }`"),
         page: "A rule calls itself before it takes a character, and would never end.\n\n    \
                sum = { sum ~ \"+\" ~ number | number }\n\n\
@@ -111,8 +122,9 @@ static FACTS: [Facts; 29] = [
     Facts {
         code: Code::EndlessRepetition,
         name: "pest::endless_repetition",
+        summary: "a repetition may never end",
         report: Report::Error,
-        message: None,
+        message: "",
         help: None,
         page: "A repetition may go on without taking a character, and would never end.\n\n    \
                a = { (\"x\"?)* }\n\n\
@@ -121,37 +133,41 @@ static FACTS: [Facts; 29] = [
     Facts {
         code: Code::UnreachableChoice,
         name: "pest::unreachable_choice",
+        summary: "an alternative follows one that cannot fail",
         report: Report::Error,
-        message: None,
-        help: Some("put the alternative that cannot fail last, or take away its `?` or `*`"),
+        message: "",
+        help: Some("put the alternative that cannot fail last, or remove its `?` or `*`"),
         page: "An alternative that cannot fail is before others.\n\n    \
                a = { \"x\"? | \"y\" }\n\nPut it last.",
     },
     Facts {
         code: Code::TagWithoutToken,
         name: "pest::tag_without_token",
+        summary: "a tag is on what produces no pair",
         report: Report::Error,
-        message: None,
-        help: Some("tag a rule that is not silent, or take the tag away"),
-        page: "A tag is given to what makes no token: a silent rule or a builtin.\n\n    \
+        message: "",
+        help: Some("tag a rule that is not silent, or remove the tag"),
+        page: "A tag is on what produces no pair: a silent rule or a builtin.\n\n    \
                a = { #t = ANY }",
     },
     Facts {
         code: Code::UnusedAllowance,
         name: "pest::unused_allowance",
+        summary: "a comment allows a warning that is not there",
         report: Report::Warning,
-        message: Some("this allows nothing in the rule below"),
-        help: Some("take the comment away"),
+        message: "this allows nothing in the rule below",
+        help: Some("remove the comment"),
         page: "A comment allows a warning that is not there, or names no code.\n\n    \
                // pest-lint: allow(pest::idle_test)\n    a = { \"x\" }\n\n\
                Such a comment is a line right above the rule, and allows one code there; the first 256 of a \
-               text count. Errors are not allowed.",
+               text count. Errors cannot be allowed.",
     },
     Facts {
         code: Code::UncalledRule,
         name: "pest::uncalled_rule",
+        summary: "a rule is never used",
         report: Report::Warning,
-        message: Some("no other rule calls this one"),
+        message: "this rule is never used",
         help: None,
         page: "A rule is not needed. It is needed if another rule calls it, if it calls SOI or EOI, if it \
                is named as a start, or if it is WHITESPACE or COMMENT. Starts are named by --start, or by a \
@@ -164,22 +180,25 @@ static FACTS: [Facts; 29] = [
     Facts {
         code: Code::MissingEnd,
         name: "pest::missing_end",
+        summary: "a start rule does not require EOI",
         report: Report::Warning,
-        message: Some("this start never asks for the end of the text: what follows may be left"),
-        help: Some("end its body with `~ EOI`, where the whole text is to match"),
+        message: "start rule doesn't require EOI, so it can stop before the end of the input",
+        help: Some("end its body with `~ EOI` if the whole input is to match"),
         page: "A rule with which matching starts never asks for the end of the text. Matching then succeeds \
                on a text that goes on behind the match.\n\n    \
                file = { SOI ~ line* }\n\n\
                Write file = { SOI ~ line* ~ EOI }. Such a start is a rule that no other rule calls, if it \
                calls SOI or is the only such rule of several. EOI, !ANY, ANY* or ANY+ ask for the end, in \
                it or by a chain of at most 32 calls. Nothing is reported where several starts are named and \
-               no rule asks for the end.",
+               no rule asks for the end. This is a hint, not definite: another refusal may also hold only \
+               at the end.",
     },
     Facts {
         code: Code::UnknownStart,
         name: "pest::unknown_start",
+        summary: "a comment names a start that is no rule",
         report: Report::Warning,
-        message: Some("no rule has this name"),
+        message: "no rule has this name",
         help: Some("give the names of rules of this grammar"),
         page: "A comment `//! pest-lint: start(a, b)` gives a start that is no rule of the grammar. Write \
                the name of a rule, as it is defined.",
@@ -187,37 +206,41 @@ static FACTS: [Facts; 29] = [
     Facts {
         code: Code::Unreachable,
         name: "pest::unreachable",
+        summary: "an earlier alternative matches a prefix of this one",
         report: Report::Warning,
-        message: Some("this alternative is never taken: one before it begins all that it matches"),
+        message: "unreachable: an earlier alternative matches a prefix of everything this one matches",
         help: None,
-        page: "A literal or a call before an alternative begins all that it matches, so it is never \
-               taken.\n\n    \
+        page: "A literal or a call before an alternative matches a prefix of everything that it matches, so \
+               it is never taken.\n\n    \
                a = { \"<\" | \"<=\" }\n    b = { name | name ~ \"(\" ~ \")\" }\n\n\
                Put the longer one first.",
     },
     Facts {
         code: Code::ReversedRange,
         name: "pest::reversed_range",
+        summary: "a range is reversed and matches nothing",
         report: Report::Warning,
-        message: Some("this range matches nothing: its first character is above its last"),
-        help: Some("let its bounds change places"),
+        message: "this range is empty: its first character is greater than its last",
+        help: Some("swap the bounds"),
         page: "The first character of a range is above its last.\n\n    \
                a = { 'z'..'a' }",
     },
     Facts {
         code: Code::ReversedCount,
         name: "pest::reversed_count",
+        summary: "a count is reversed, and its first number is ignored",
         report: Report::Warning,
-        message: Some("the first number is above the last, which alone counts"),
-        help: Some("let its numbers change places"),
+        message: "the first number is greater than the last, and is ignored",
+        help: Some("swap the numbers"),
         page: "The first number of a count is above its last, which alone counts.\n\n    \
                a = { \"x\"{3,1} }\n\nThis takes one \"x\".",
     },
     Facts {
         code: Code::IdleTest,
         name: "pest::idle_test",
+        summary: "a test or an option of what cannot fail",
         report: Report::Warning,
-        message: Some("this changes nothing, since what it holds cannot fail"),
+        message: "this has no effect, since its operand cannot fail",
         help: None,
         page: "A test or an option holds what cannot fail, and changes nothing.\n\n    \
                a = { ANY*? ~ \"x\" }\n\n\
@@ -226,8 +249,9 @@ static FACTS: [Facts; 29] = [
     Facts {
         code: Code::NeverMatches,
         name: "pest::never_matches",
+        summary: "an expression that succeeds on no text",
         report: Report::Warning,
-        message: Some("this never matches"),
+        message: "this never matches",
         help: None,
         page: "An expression succeeds on no text.\n\n    \
                a = { ANY* ~ \"x\" }\n\n\
@@ -237,9 +261,10 @@ static FACTS: [Facts; 29] = [
     Facts {
         code: Code::BlanksInToken,
         name: "pest::blanks_in_token",
+        summary: "whitespace is skipped between characters",
         report: Report::Warning,
-        message: Some("blanks are skipped between these characters"),
-        help: Some("a rule with `@` before its brace skips none"),
+        message: "implicit whitespace is allowed between these characters",
+        help: Some("make the rule atomic: `name = @{ .. }`"),
         page: "Where WHITESPACE or COMMENT is defined, it is skipped between the parts of a rule, also \
                between the characters of a repetition.\n\n    \
                WHITESPACE = _{ \" \" }\n    word = { ASCII_ALPHA+ }\n\n\
@@ -250,8 +275,9 @@ static FACTS: [Facts; 29] = [
     Facts {
         code: Code::ManyCopies,
         name: "pest::many_copies",
+        summary: "nested counts make 10,000 copies or more",
         report: Report::Warning,
-        message: Some("the optimizer makes 10,000 copies or more of what this repeats"),
+        message: "the optimizer makes 10,000 copies or more of what this repeats",
         help: Some("put a part of it into a rule of its own: then calls alone are copied"),
         page: "The optimizer writes counts out, and those of nested repetitions multiply. From 10,000 \
                copies of an expression on this is reported.\n\n    \
@@ -262,9 +288,10 @@ static FACTS: [Facts; 29] = [
     Facts {
         code: Code::RepeatedAlternative,
         name: "pest::repeated_alternative",
+        summary: "an alternative stands twice in a choice",
         report: Report::Warning,
-        message: Some("this alternative is never taken: it is the same as one before it"),
-        help: Some("take it away, or write what was meant"),
+        message: "unreachable: this alternative is the same as an earlier one",
+        help: Some("remove it, or write what was meant"),
         page: "An alternative is the same as one before it, so it is never taken. Those of more than 256 \
                signs are not compared.\n\n    \
                a = { \"x\" ~ b | c | \"x\" ~ b }",
@@ -272,20 +299,23 @@ static FACTS: [Facts; 29] = [
     Facts {
         code: Code::RewrittenList,
         name: "pest::rewritten_list",
+        summary: "a list that pest runs differently",
         report: Report::Warning,
-        message: Some("pest runs a list `(x ~ y)* ~ x` of this rule as `x ~ (y ~ x)*`"),
+        message: "pest runs a list `(x ~ y)* ~ x` of this rule as `x ~ (y ~ x)*`",
         help: Some("so it matches before a `y` that no `x` follows; write what is meant"),
         page: "The optimizer turns (x ~ y)* ~ x into x ~ (y ~ x)*, which matches more.\n\n    \
                a = { (b ~ \",\")* ~ b }\n    b = { \"x\" }\n\n\
                As it is written, this fails on \"x,\"; pest takes the x. An x that cannot fail is not told, \
                nor is an Atomic rule with (!c ~ n)*. A note gives a text on which the rule ends otherwise, \
-               where a search among short texts finds one; none in a grammar of more than 200 rules.",
+               where a search among short texts finds one; none in a grammar of more than 200 rules. Nothing \
+               is reported of rules that have more than 1,000,000 nodes when counts are written out.",
     },
     Facts {
         code: Code::KeywordName,
         name: "pest::keyword_name",
+        summary: "a rule is named as a keyword of Rust",
         report: Report::OnRequest,
-        message: Some("Rust keeps this name for itself"),
+        message: "Rust keeps this name for itself",
         help: Some(
             "in Rust it is written `r#name`, which `self`, `Self`, `super` and `crate` can't be",
         ),
@@ -296,8 +326,9 @@ static FACTS: [Facts; 29] = [
     Facts {
         code: Code::BuiltinName,
         name: "pest::builtin_name",
+        summary: "a rule is named as a builtin",
         report: Report::OnRequest,
-        message: Some("this name is that of a builtin"),
+        message: "this name is that of a builtin",
         help: None,
         page: "A rule is named as a builtin, and takes its place. Or it is named as one of pest 1, as any, \
                eoi or whitespace, and is a rule like others. Reported only with --warn all.\n\n    \
@@ -306,9 +337,10 @@ static FACTS: [Facts; 29] = [
     Facts {
         code: Code::RepeatedBody,
         name: "pest::repeated_body",
+        summary: "two rules have one type and body",
         report: Report::OnRequest,
-        message: Some("a rule before this one has the same type and body"),
-        help: Some("let one of them call the other, or take one away"),
+        message: "a rule before this one has the same type and body",
+        help: Some("let one of them call the other, or remove one"),
         page: "A rule has the type and the body of one before it. Reported only with --warn all, since two \
                names may be meant. A literal, a call, and more than 256 signs are not compared.\n\n    \
                count = @{ ASCII_DIGIT+ }\n    number = @{ ASCII_DIGIT+ }\n\n\
@@ -317,8 +349,9 @@ static FACTS: [Facts; 29] = [
     Facts {
         code: Code::StackRead,
         name: "pest::stack_read",
+        summary: "the stack is read, so time has no known bound",
         report: Report::OnRequest,
-        message: Some("the stack is read: the time of a match has no bound that is known"),
+        message: "the stack is read: the time of a match has no bound that is known",
         help: Some("give each match a limit on steps"),
         page: "The stack is read. Of rules that do not use the stack it is known after a number of turns that \
                is linear in the text whether they match; with the stack, backtracking may take exponential \
@@ -333,6 +366,7 @@ pub fn all_facts() -> &'static [Facts]
     ensures codes { map (λ facts. facts.code) result.now ≡ all_codes }
     ensures names { map (λ facts. facts.name.now) result.now ≡ map code_name all_codes }
     ensures reports { map (λ facts. facts.report) result.now ≡ map report_of all_codes }
+    ensures messages { map (λ facts. facts.message.now) result.now ≡ map message_of all_codes }
 {
     &FACTS
 }
@@ -342,6 +376,7 @@ pub(crate) fn facts_of(code: Code) -> &'static Facts
     ensures code { result.now.code ≡ code }
     ensures name { result.now.name.now ≡ code_name code }
     ensures report { result.now.report ≡ report_of code }
+    ensures message { result.now.message.now ≡ message_of code }
 {
     &all_facts()[code as usize]
 }

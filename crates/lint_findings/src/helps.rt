@@ -43,16 +43,16 @@ fn help_text(code: Code, about: &str, is_repeat: bool) -> Option<&'static str> {
 /// The help for a rule of this name that no other calls.
 fn uncalled_text(name: &str) -> &'static str {
     if is_blank_name_in_any_case(name) {
-        "what is skipped between expressions has the name in capitals"
+        "the rules for implicit whitespace are named in capitals"
     } else {
-        "where matching starts with it, name it: `//! pest-lint: start(NAME)`"
+        "if this is an entry point, declare it: `//! pest-lint: start(NAME)`"
     }
 }
 
 /// The help for an alternative that is never taken, which may be the same as one before it.
 fn unreachable_text(is_repeat: bool) -> &'static str {
     if is_repeat {
-        "it is the same alternative twice: take this one away"
+        "remove this alternative: it stands twice"
     } else {
         "put the longer alternative first"
     }
@@ -61,18 +61,18 @@ fn unreachable_text(is_repeat: bool) -> &'static str {
 /// The help for this test or option of an expression that cannot fail.
 fn idle_text(test: &str) -> &'static str {
     if test.starts_with('&') {
-        "what `&` tests cannot fail: test one turn, as `&e`, or take it away"
+        "what `&` tests cannot fail: test one turn, as `&e`, or remove it"
     } else if test.ends_with("*?") {
         "no repetition is lazy: write `(!end ~ ANY)*` for what is before an end"
     } else {
-        "take this `?` away: what it holds may be left out already"
+        "remove this `?`: its operand is optional already"
     }
 }
 
 /// The help for this expression, which never matches.
 fn never_text(expression: &str) -> &'static str {
     if expression.starts_with('!') {
-        "what `!` refuses cannot fail"
+        "the operand of `!` cannot fail, so `!` always does"
     } else if repeats_once(expression) {
         "`ANY+` takes the whole rest of the text: write `(!end ~ ANY)+` for what is before an end"
     } else {
@@ -114,8 +114,8 @@ pub(crate) fn allowance_help(
 /// The help for an allowance that allows nothing.
 fn allowance_text(allowed: Option<Code>) -> &'static str {
     match allowed.map(|code| code.severity()) {
-        Some(Severity::Warning) => "take the comment away",
-        Some(Severity::Error) => "an error is mended, and not allowed",
+        Some(Severity::Warning) => "remove the comment",
+        Some(Severity::Error) => "errors cannot be allowed; fix it",
         None => "name the code of a warning, as `// pest-lint: allow(pest::idle_test)`",
     }
 }

@@ -4,7 +4,7 @@ ghost use Rattle.lint_findings.specs.Helps.{IsSuggestion};
 ghost use Rattle.front_names.specs.Builtins.{builtin_names};
 
 use front_names::{Builtin, CharSet, unicode_property_names};
-use lint_hints::{Help, Related, definitions, nearest_name};
+use lint_hints::{Fix, Help, Related, definitions, nearest_name};
 use std::alloc::{AllocError, Global};
 use std::collections::HashMap;
 
@@ -96,16 +96,23 @@ impl<'t> Definitions<'t> {
         self.count = self.count.saturating_add(1);
         let others = self.names_of_others(alloc, start)?;
         if let Some(nearest) = nearest_name(alloc, name, &others)? {
-            return did_you_mean(alloc, nearest, start, end);
+            return did_you_mean(alloc, name, nearest, start, end);
         }
         if let Some(known) = known_elsewhere(name) {
-            return did_you_mean(alloc, known, start, end);
+            return did_you_mean(alloc, name, known, start, end);
+        }
+        let capitals = name.to_ascii_uppercase(alloc)?;
+        if let Some(known) = known_elsewhere(capitals.as_str()) {
+            return did_you_mean(alloc, name, known, start, end);
+        }
+        if let Some(nearest) = nearest_name(alloc, capitals.as_str(), &self.builtins)? {
+            return did_you_mean(alloc, name, nearest, start, end);
         }
         if let Some(nearest) = nearest_name(alloc, name, &self.builtins)? {
-            return did_you_mean(alloc, nearest, start, end);
+            return did_you_mean(alloc, name, nearest, start, end);
         }
         match nearest_name(alloc, name, unicode_property_names())? {
-            Some(nearest) => did_you_mean(alloc, nearest, start, end),
+            Some(nearest) => did_you_mean(alloc, name, nearest, start, end),
             None => Ok(None),
         }
     }
@@ -143,12 +150,15 @@ fn builtin_elsewhere(name: &str) -> Option<Builtin> {
 /// The set of characters that other notations call by a name.
 fn set_elsewhere(name: &str) -> Option<CharSet> {
     match name {
-        "digit" | "Digit" | "DIGIT" | "digits" => Some(CharSet::AsciiDigit),
+        "digit" | "DIGIT" | "DIGITS" | "ASCII_NUMBER" => Some(CharSet::AsciiDigit),
         "alpha" | "ALPHA" | "letter" | "ASCII_LETTER" => Some(CharSet::AsciiAlpha),
-        "alnum" | "ALNUM" | "alphanumeric" | "ASCII_ALNUM" => Some(CharSet::AsciiAlphanumeric),
+        "ASCII_ALPHABETIC" | "ASCII_ALPHABET" => Some(CharSet::AsciiAlpha),
+        "ASCII_LOWER" | "ASCII_LOWERCASE" => Some(CharSet::AsciiAlphaLower),
+        "ASCII_UPPER" | "ASCII_UPPERCASE" => Some(CharSet::AsciiAlphaUpper),
+        "ALNUM" | "alphanumeric" | "ASCII_ALNUM" => Some(CharSet::AsciiAlphanumeric),
         "ASCII_ALPHANUM" | "ASCII_ALPHA_NUMERIC" => Some(CharSet::AsciiAlphanumeric),
-        "xdigit" | "HEXDIG" | "hex_digit" | "ASCII_HEX" => Some(CharSet::AsciiHexDigit),
-        "_" | "anychar" | "char" | "dot" | "ANYCHAR" => Some(CharSet::Any),
+        "XDIGIT" | "HEXDIG" | "HEX_DIGIT" | "ASCII_HEX" => Some(CharSet::AsciiHexDigit),
+        "_" | "CHAR" | "DOT" | "ANYCHAR" | "ANY_CHAR" | "ANYTHING" => Some(CharSet::Any),
         _ => None,
     }
 }
@@ -169,7 +179,9 @@ fn property_elsewhere(name: &str) -> Option<&'static str> {
 /// The string that other notations call by a name.
 fn character_of(name: &str) -> Option<&'static str> {
     match name {
-        "SP" | "space" | "SPACE" => Some("\" \""),
+        "SP" | "SPACE" => Some("\" \""),
+        "WS" | "WHITESPACES" | "WHITE_SPACES" => Some("WHITE_SPACE"),
+        "WHITESPACE" | "BLANK" => Some("WHITE_SPACE"),
         "tab" | "TAB" | "HTAB" => Some("\"\\t\""),
         "cr" | "CR" => Some("\"\\r\""),
         "lf" | "LF" => Some("\"\\n\""),
@@ -179,9 +191,10 @@ fn character_of(name: &str) -> Option<&'static str> {
     }
 }
 
-/// A help that replaces the bytes `start..end` by a name.
+/// A help that replaces an undefined name at the bytes `start..end` by another.
 fn did_you_mean(
     alloc: Global,
+    undefined: &str,
     name: &str,
     start: usize,
     end: usize,
@@ -189,6 +202,7 @@ fn did_you_mean(
     ensures { IfOk result (λ help. IfSome help IsSuggestion) }
 {
     let message = format!(in alloc; "did you mean `{name}`?")?;
-    let help = Help::replace(alloc, message.as_str(), start, end, name)?;
+    let fix = Fix::suggest(alloc, undefined, start, end, name)?;
+    let help = Help::with_fix(alloc, message.as_str(), fix)?;
     Ok(Some(help))
 }

@@ -9,12 +9,14 @@ ghost use Rattle.lint_findings.specs.declared.codes.Code.TheVariants as variant;
 ghost use Rattle.lint_findings.specs.declared.codes.Severity.TheVariants as severity;
 ghost use Rattle.lint_warnings.specs.Lists.{texts_of};
 
+use crate::bodies::{RuleBody, bodies_of};
 use crate::choices::diagnose_choices;
 use crate::codes::{Code, Severity};
 use crate::diagnostic::Diagnostic;
 use crate::facts::{Facts, all_facts};
 use crate::helps::listed_help;
 use crate::names::{builtin_names, keyword_names};
+use crate::remedies::{add_fix, fix_of_warning};
 use base_language::runtime::Span;
 use front_spanned::ParserRule;
 use lint_hints::Related;
@@ -169,7 +171,8 @@ fn diagnose_spans(
 {
     let spans = spans_of(alloc, code, rules, starts)?;
     let twins = twins_of(alloc, code, rules)?;
-    report_spans(alloc, code, &spans, &twins)
+    let bodies = bodies_for(alloc, code, &spans)?;
+    report_spans(alloc, code, &spans, &twins, &bodies)
 }
 
 /// The warning of a rule with this name, in which pest runs a list otherwise than it is written, with notes.
@@ -199,12 +202,21 @@ fn twins_of(
     }
 }
 
-/// A warning of a code at each of these spans, with a note on its twin, if it has one.
+/// The bodies of rules in the text of some spans, where the fixes for a code change them.
+fn bodies_for(alloc: Global, code: Code, spans: &[Span<'_>]) -> Result<Vec<RuleBody>, AllocError> {
+    match (code, spans.first()) {
+        (Code::MissingEnd | Code::BlanksInToken, Some(span)) => bodies_of(alloc, span.get_input()),
+        _ => Ok(Vec::new(alloc)),
+    }
+}
+
+/// A warning of a code at each of these spans, with its fix, and a note on its twin, if it has one.
 fn report_spans(
     alloc: Global,
     code: Code,
     spans: &[Span<'_>],
     twins: &HashMap<usize, (usize, usize)>,
+    bodies: &[RuleBody],
 ) -> Result<Vec<Diagnostic>, AllocError>
     requires { severity_of code ≡ severity.Warning }
     ensures { IfOk result (λ diagnostics.
@@ -212,24 +224,27 @@ fn report_spans(
 {
     let mut diagnostics = Vec::new(alloc);
     for span in spans {
-        let diagnostic = report_with_twin(alloc, code, *span, twins)?;
+        let diagnostic = report_with_twin(alloc, code, *span, twins, bodies)?;
         diagnostics.push(diagnostic)?;
     }
     Ok(diagnostics)
 }
 
-/// A warning of a code at a span, with a note on its twin, if it has one.
+/// A warning of a code at a span, with its fix, and a note on its twin, if it has one.
 fn report_with_twin(
     alloc: Global,
     code: Code,
     span: Span<'_>,
     twins: &HashMap<usize, (usize, usize)>,
+    bodies: &[RuleBody],
 ) -> Result<Diagnostic, AllocError>
     requires { severity_of code ≡ severity.Warning }
     ensures { IfOk result (ReportsWarning (spec.warning code (piece_of span.entry))) }
 {
     let mut diagnostic = report_span(alloc, code, span, false)?;
     diagnostic.related = twin_notes(alloc, span.start(), twins)?;
+    let fix = fix_of_warning(alloc, code, span, bodies)?;
+    diagnostic.help = add_fix(diagnostic.help, fix);
     Ok(diagnostic)
 }
 

@@ -1,9 +1,18 @@
 //! Helps, fixes, related positions.
-ghost use Rattle.std.specs.Prelude.{◌≡◌, ◌↔◌, IfOk, IsSome, IsSomeAnd, None, string_bytes};
+ghost use Rattle.std.specs.Prelude.{◌≡◌, ◌↔◌, IfOk, IsSome, None, Some, string_bytes};
 ghost use Rattle.lint_hints.specs.Hints.{IsReplacement};
 
 use crate::mistakes::Mistake;
 use std::alloc::{AllocError, Global};
+
+/// Whether a fix may be applied unasked.
+#[derive(Clone, Copy, Debug, PartialEq, Eq)]
+pub enum Applicability {
+    /// The fixed text says what its author wrote.
+    Safe,
+    /// The fixed text may say something else.
+    Unsafe,
+}
 
 /// A replacement of a part of the text, in bytes: `start..end` becomes `replacement`.
 #[derive(Debug, Drop, PartialEq, Eq)]
@@ -11,6 +20,9 @@ pub struct Fix {
     pub start: usize,
     pub end: usize,
     pub replacement: String,
+    pub applicability: Applicability,
+    /// The change, in words, as "Add `}`".
+    pub title: String,
 }
 
 /// How a mistake may be mended, and the replacement that does so where one is definite.
@@ -72,7 +84,7 @@ pub(crate) fn replace(
 }
 
 impl Fix {
-    /// The bytes `start..end` become a text.
+    /// The bytes `start..end` become a text; whether it may be applied, and what it does, is not said.
     pub(crate) fn new(
         alloc: Global,
         start: usize,
@@ -86,6 +98,54 @@ impl Fix {
             start,
             end,
             replacement,
+            applicability: Applicability::Unsafe,
+            title: String::new(alloc),
+        })
+    }
+
+    /// Returns a fix that replaces the bytes `start..end` of `text` by `replacement`.
+    ///
+    /// # Errors
+    /// `AllocError` if an allocation fails.
+    pub fn of(
+        alloc: Global,
+        text: &str,
+        start: usize,
+        end: usize,
+        replacement: &str,
+        applicability: Applicability,
+    ) -> Result<Fix, AllocError>
+        ensures replaces { IfOk result (IsReplacement start end replacement.now) }
+        ensures applicability { IfOk result (λ fix. fix.applicability ≡ applicability) }
+    {
+        let removed = text.get(start..end).unwrap_or("");
+        let mut fix = Fix::suggest(alloc, removed, start, end, replacement)?;
+        fix.applicability = applicability;
+        Ok(fix)
+    }
+
+    /// Returns an unsafe fix that replaces the bytes `start..end`, which are `removed`, by `replacement`.
+    ///
+    /// # Errors
+    /// `AllocError` if an allocation fails.
+    pub fn suggest(
+        alloc: Global,
+        removed: &str,
+        start: usize,
+        end: usize,
+        replacement: &str,
+    ) -> Result<Fix, AllocError>
+        ensures replaces { IfOk result (IsReplacement start end replacement.now) }
+        ensures unsafe_alone { IfOk result (λ fix. fix.applicability ≡ Applicability.Unsafe) }
+    {
+        let title = title_of(alloc, removed.trim(), replacement.trim())?;
+        let replacement = String::from_str(alloc, replacement)?;
+        Ok(Fix {
+            start,
+            end,
+            replacement,
+            applicability: Applicability::Unsafe,
+            title,
         })
     }
 }
@@ -100,23 +160,30 @@ impl Help {
         Ok(Help { message, fix: None })
     }
 
-    /// A help of this message, which replaces the bytes `start..end`.
-    pub fn replace(
-        alloc: Global,
-        message: &str,
-        start: usize,
-        end: usize,
-        replacement: &str,
-    ) -> Result<Help, AllocError>
+    /// Returns a help with the message `message` and with `fix`.
+    ///
+    /// # Errors
+    /// `AllocError` if an allocation fails.
+    pub fn with_fix(alloc: Global, message: &str, fix: Fix) -> Result<Help, AllocError>
         ensures message { IfOk result (λ help. string_bytes help.message ≡ message.now) }
-        ensures fix { IfOk result (λ help. IsSomeAnd help.fix (IsReplacement start end replacement.now)) }
+        ensures fix { IfOk result (λ help. help.fix ≡ Some fix) }
     {
         let message = String::from_str(alloc, message)?;
-        let fix = Fix::new(alloc, start, end, replacement)?;
         Ok(Help {
             message,
             fix: Some(fix),
         })
+    }
+}
+
+/// The title of a fix that takes one text away and writes another, both without blanks around them.
+fn title_of(alloc: Global, removed: &str, written: &str) -> Result<String, AllocError> {
+    if removed.is_empty() {
+        format!(in alloc; "Add `{written}`")
+    } else if written.is_empty() {
+        format!(in alloc; "Remove `{removed}`")
+    } else {
+        format!(in alloc; "Replace `{removed}` with `{written}`")
     }
 }
 

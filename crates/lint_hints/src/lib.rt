@@ -3,6 +3,7 @@
 
 ghost use Rattle.std.specs.Prelude.{◌↔◌, IfOk, IsSome};
 
+mod classes;
 mod foreign;
 mod help;
 mod literals;
@@ -14,7 +15,7 @@ mod terms;
 
 use crate::foreign::at_foreign;
 use crate::help::{Remedy, say};
-pub use crate::help::{Fix, Help, Hint, Related};
+pub use crate::help::{Applicability, Fix, Help, Hint, Related};
 use crate::literals::{at_character, in_character, in_text, open_literal};
 pub use crate::mistakes::{
     ForeignMistake, LiteralMistake, Mistake, OuterMistake, SignMistake, TermMistake,

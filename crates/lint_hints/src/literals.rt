@@ -78,6 +78,9 @@ fn double_quotes(
     mistake: LiteralMistake,
 ) -> Result<Option<Remedy>, AllocError> {
     let inner = inner_of(site, quoted);
+    if inner == "\"" {
+        return replace(alloc, mistake, quoted.start, quoted.end, "\"\\\"\"");
+    }
     if inner.contains('"') {
         return Ok(say(mistake));
     }

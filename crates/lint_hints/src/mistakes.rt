@@ -346,7 +346,7 @@ impl SignMistake {
             SignMistake::RegexClass => "classes of characters have names",
             SignMistake::RegexEscape => "an escape is in a string, as `\"\\n\"`",
             SignMistake::NegatedClass => {
-                "a character that is none of some is written `!(\"a\" | \"b\") ~ ANY`"
+                "to match any character except some, write `!(\"a\" | \"b\") ~ ANY`"
             }
             SignMistake::Class => "a class of characters is a choice of ranges and strings",
             SignMistake::Brackets => {
@@ -371,7 +371,7 @@ impl SignMistake {
             SignMistake::Difference => "what matches `a` and not `b` is written `!b ~ a`",
             SignMistake::OpenParenthesis => "a parenthesis is not closed",
             SignMistake::ClosedParenthesis => "no parenthesis is open here",
-            SignMistake::Nothing => "what takes nothing is written `\"\"`",
+            SignMistake::Nothing => "use `\"\"` to match the empty string",
         }
     }
 }
@@ -436,7 +436,7 @@ impl TermMistake {
             TermMistake::LostQuote => {
                 "the string before this one goes over a line's end; a quote may be missing"
             }
-            TermMistake::AnyCase => "text in any case is written `^\"a\"`",
+            TermMistake::AnyCase => "case-insensitive strings are written `^\"a\"`",
             TermMistake::RawString => "there are no raw strings: a backslash is written `\\\\`",
             TermMistake::Caret => "`^` is followed by a string",
             TermMistake::Word =>

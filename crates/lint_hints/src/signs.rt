@@ -1,4 +1,5 @@
 //! Hints at signs in bodies.
+use crate::classes::class_at;
 use crate::foreign::at_control;
 use crate::help::{Remedy, replace, say};
 use crate::literals::{after_character, bound_of, is_bound, range_of_strings};
@@ -145,66 +146,36 @@ fn at_closing(alloc: Global, site: &Site<'_>, byte: u8) -> Result<Option<Remedy>
     after_character(alloc, site)
 }
 
-/// The remedy of a bracket: a class of characters, or an optional part.
+/// The remedy of a bracket: a class of characters, or an optional part. A class that follows an expression
+/// gets its `~`.
 fn at_bracket(alloc: Global, site: &Site<'_>, here: Lexeme) -> Result<Option<Remedy>, AllocError> {
-    let start = here.start.saturating_add(1);
-    if site.byte(start) == b'^' {
-        return Ok(say(SignMistake::NegatedClass));
-    }
-    let end = class_end(site, start);
-    if let Some(text) = class_text(alloc, site, start, end)? {
-        let after = end.saturating_add(1);
-        return replace(alloc, SignMistake::Class, here.start, after, text.as_str());
-    }
-    Ok(say(SignMistake::Brackets))
-}
-
-/// The byte of the bracket that closes a class of characters, or where another character comes first.
-fn class_end(site: &Site<'_>, start: usize) -> usize {
-    for at in start..site.text.len() {
-        let byte = site.byte(at);
-        if !byte.is_ascii_alphanumeric() && byte != b'-' && byte != b'_' {
-            return at;
-        }
-    }
-    site.text.len()
-}
-
-/// A class of characters with a range in it, as a choice; none where it is not such a class.
-fn class_text(
-    alloc: Global,
-    site: &Site<'_>,
-    start: usize,
-    end: usize,
-) -> Result<Option<String>, AllocError> {
-    let mut text = String::new(alloc);
-    let mut has_range = false;
-    let mut next = start;
-    for at in start..end {
-        if at < next {
-            continue;
-        }
-        let separator = if text.is_empty() { "" } else { " | " };
-        text.push_str(separator)?;
-        let last = at.saturating_add(2);
-        if site.byte(at.saturating_add(1)) == b'-' && last < end {
-            let range = format!(in alloc;
-                "'{}'..'{}'",
-                site.part(at, at.saturating_add(1)),
-                site.part(last, last.saturating_add(1))
-            )?;
-            text.push_str(range.as_str())?;
-            has_range = true;
-            next = last.saturating_add(1);
+    let is_negated = site.byte(here.start.saturating_add(1)) == b'^';
+    let mistake = if is_negated {
+        SignMistake::NegatedClass
+    } else {
+        SignMistake::Class
+    };
+    let Some(class) = class_at(alloc, site, here.start)? else {
+        return Ok(if is_negated {
+            say(mistake)
         } else {
-            let item = format!(in alloc; "\"{}\"", site.part(at, at.saturating_add(1)))?;
-            text.push_str(item.as_str())?;
-        }
+            say(SignMistake::Brackets)
+        });
+    };
+    let text = format!(in alloc; "{}{}", tilde_before(site, here), class.text)?;
+    replace(alloc, mistake, here.start, class.end, text.as_str())
+}
+
+/// The `~` that an expression at a lexeme needs, with blanks; nothing where none ends before it.
+fn tilde_before(site: &Site<'_>, here: Lexeme) -> &'static str {
+    let before = site.previous_lexeme(1);
+    if !ends_term(before) {
+        ""
+    } else if before.end == here.start {
+        " ~ "
+    } else {
+        "~ "
     }
-    if !has_range || site.byte(end) != b']' {
-        return Ok(None);
-    }
-    Ok(Some(format!(in alloc; "({text})")?))
 }
 
 /// The remedy of a dot: a range, or any character.

@@ -27,13 +27,24 @@ pub(crate) fn at_term(alloc: Global, site: &Site<'_>) -> Result<Option<Remedy>, 
     if let Some(remedy) = after_character(alloc, site)? {
         return Ok(Some(remedy));
     }
-    if site.here().class == LexemeClass::OpenText {
+    if site.here().class == LexemeClass::OpenText || touches_string(site, before) {
         return Ok(say(LiteralMistake::OpenString));
     }
     if !ends_term(before) {
         return Ok(None);
     }
     lost_tilde(alloc, site, before)
+}
+
+/// Whether a string ends right before a quote, a letter or a digit: then the quote that ends it may be one of
+/// the text that was meant.
+fn touches_string(site: &Site<'_>, before: Lexeme) -> bool {
+    let here = site.here();
+    let is_part = matches!(
+        here.class,
+        LexemeClass::Text | LexemeClass::Character | LexemeClass::Name | LexemeClass::Digits
+    );
+    before.class == LexemeClass::Text && before.end == here.start && is_part
 }
 
 /// The mistake that a word or a string around the error shows.
@@ -117,29 +128,48 @@ fn after_name(alloc: Global, site: &Site<'_>) -> Result<Option<Remedy>, AllocErr
                 "PUSH",
             )
         }
-        name => Ok(after_builtin(name, is_called)),
+        name => after_builtin(alloc, site, name, is_called),
     }
 }
 
 /// The remedy of a builtin of this name that is called with parentheses or without.
-fn after_builtin(name: &str, is_called: bool) -> Option<Remedy> {
+fn after_builtin(
+    alloc: Global,
+    site: &Site<'_>,
+    name: &str,
+    is_called: bool,
+) -> Result<Option<Remedy>, AllocError> {
     match name {
-        "PUSH" if !is_called => say(TermMistake::Push),
-        "PUSH_LITERAL" if !is_called => say(TermMistake::PushLiteral),
-        _ if is_called => called_builtin(Builtin::from_name(name)?),
-        _ => None,
+        "PUSH" if !is_called => Ok(say(TermMistake::Push)),
+        "PUSH_LITERAL" if !is_called => Ok(say(TermMistake::PushLiteral)),
+        _ if is_called => match call_mistake(name) {
+            Some(mistake) => called_builtin(alloc, site, mistake),
+            None => Ok(None),
+        },
+        _ => Ok(None),
     }
 }
 
-/// The remedy of a builtin that is called with parentheses.
-fn called_builtin(builtin: Builtin) -> Option<Remedy> {
-    match builtin {
-        Builtin::Peek => say(TermMistake::Peek),
-        Builtin::Pop | Builtin::Drop | Builtin::PeekAll | Builtin::PopAll => {
-            say(TermMistake::Pop)
-        }
+/// The mistake of a builtin of this name that is called with parentheses.
+fn call_mistake(name: &str) -> Option<TermMistake> {
+    match Builtin::from_name(name)? {
+        Builtin::Peek => Some(TermMistake::Peek),
+        Builtin::Pop | Builtin::Drop | Builtin::PeekAll | Builtin::PopAll => Some(TermMistake::Pop),
         Builtin::Set(_) | Builtin::Soi | Builtin::Eoi | Builtin::Newline => None,
     }
+}
+
+/// The remedy of a builtin before parentheses at the error, which are taken away if they are empty.
+fn called_builtin(
+    alloc: Global,
+    site: &Site<'_>,
+    mistake: TermMistake,
+) -> Result<Option<Remedy>, AllocError> {
+    let close = site.next_lexeme(1);
+    if !is_sign(close, b')') {
+        return Ok(say(mistake));
+    }
+    replace(alloc, mistake, site.here().start, close.end, "")
 }
 
 /// The remedy of a modifier after the brace, which begins at the lexeme before it.

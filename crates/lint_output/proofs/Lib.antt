@@ -2,4 +2,3 @@ pub mod Floats
 pub mod Locating
 pub mod Placing
 pub mod Values
-pub mod Fixing

@@ -5,6 +5,8 @@ use Rattle.serde_json.specs.View.{items_of}
 use Rattle.serde_json.specs.Written.{compact_text}
 use Rattle.lint_findings.specs.Codes.{code_name, severity_name}
 use Rattle.lint_findings.specs.declared.diagnostic.Diagnostic.{Diagnostic}
+use Rattle.lint_hints.specs.declared.help.Applicability.{Applicability}
+use Rattle.lint_hints.specs.declared.help.Applicability.TheVariants as applicability
 use Rattle.lint_hints.specs.declared.help.Fix.{Fix}
 use Rattle.lint_hints.specs.declared.help.Help.{Help}
 use Rattle.lint_hints.specs.declared.help.Related.{Related}
@@ -34,12 +36,17 @@ abbrev pub help_data : Option Help → Data
 help_data None = null
 help_data (Some help) = string (string_bytes help.message)
 
+abbrev pub applicability_name : Applicability → List ℕ
+applicability_name applicability.Safe = codes "safe"
+applicability_name applicability.Unsafe = codes "unsafe"
+
 abbrev pub fix_data : Option Fix → Data
 fix_data None = null
 fix_data (Some fix) = object
+    (member (codes "applicability") (string (applicability_name fix.applicability))
     (member (codes "end") (size_data fix.end)
     (member (codes "replacement") (string (string_bytes fix.replacement))
-    (member (codes "start") (size_data fix.start) no_members)))
+    (member (codes "start") (size_data fix.start) no_members))))
 
 abbrev pub mended_data : Option Help → Data
 mended_data None = null

@@ -4,4 +4,3 @@ pub mod Locations
 pub mod Prints
 pub mod Sarif
 pub mod Visible
-pub mod Fixes

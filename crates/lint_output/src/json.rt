@@ -3,7 +3,7 @@ ghost use Rattle.std.specs.Prelude.{◌≡◌, IfOk, false, map, string_bytes};
 ghost use Rattle.serde_json.specs.Data.{array, string};
 ghost use Rattle.serde_json.specs.View.{items_of, members_view, view};
 ghost use Rattle.serde_json.specs.Written.{has_float};
-ghost use Rattle.lint_output.specs.Json.{fix_data, help_data, json_line, last_members, later_members, line_data, located_line};
+ghost use Rattle.lint_output.specs.Json.{applicability_name, fix_data, help_data, json_line, last_members, later_members, line_data, located_line};
 ghost use Rattle.lint_output.specs.Json.{mended_data, part_data, related_data};
 ghost use Rattle.lint_output.specs.Locations.{IsIndexOf};
 ghost use Rattle.lint_output.specs.Prints.{IsLine};
@@ -11,7 +11,7 @@ ghost use Rattle.lint_output.specs.Prints.{IsLine};
 use crate::Origin;
 use crate::lines::Location;
 use crate::objects::{put_size, put_text};
-use lint_findings::{Diagnostic, Fix, Help, Related};
+use lint_findings::{Applicability, Diagnostic, Fix, Help, Related};
 use program_support::json::escape_json;
 use serde_json::{Map, Value, json, put};
 use std::alloc::{AllocError, Global};
@@ -170,12 +170,23 @@ fn mended_value(alloc: Global, help: &Option<Help>) -> Result<Value, AllocError>
     }
 }
 
+/// The name of an applicability.
+fn applicability_name(applicability: Applicability) -> &'static str
+    ensures { result.now ≡ applicability_name applicability }
+{
+    match applicability {
+        Applicability::Safe => "safe",
+        Applicability::Unsafe => "unsafe",
+    }
+}
+
 /// A fix as an object, or null.
 fn fix_value(alloc: Global, fix: &Option<Fix>) -> Result<Value, AllocError>
     ensures { IfOk result (λ value. view value ≡ fix_data fix.now) }
 {
     match fix {
         Some(fix) => json!(in alloc; {
+            "applicability": applicability_name(fix.applicability),
             "start": fix.start,
             "end": fix.end,
             "replacement": fix.replacement.as_str()

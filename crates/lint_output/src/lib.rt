@@ -1,9 +1,7 @@
-//! Diagnostics as they are printed: as text, JSON, SARIF and annotations of GitHub. And fixes of a text's
-//! syntax errors.
+//! Diagnostics as they are printed: as text, JSON, SARIF and annotations of GitHub.
 #![tactic(auto)]
 
 mod excerpts;
-mod fixes;
 mod github;
 mod json;
 mod lines;
@@ -13,7 +11,6 @@ mod styles;
 mod text;
 mod visible;
 
-pub use crate::fixes::{Mended, mend};
 pub use crate::lines::{LineIndex, Location};
 pub use crate::sarif::{sarif_log, sarif_result, sarif_rule};
 pub use crate::styles::print_diagnostic;

@@ -249,146 +249,145 @@ fn only_fails(code: &Bytecode<'_>, label: u32) -> bool {
     false
 }
 
-/// The kinds of labels that are found, and the labels that are to be visited.
+/// Labels whose kinds follow from each other: a forest of disjoint sets. In a set each label is deeper than its
+/// parent by a number of slots, modulo 2^32.
 #[derive(Drop)]
-struct KindSearch {
+struct LabelSets {
+    parents: Vec<u32>,
+    depths: Vec<u32>,
+    sizes: Vec<u32>,
+    /// The kinds of roots that are known.
     kinds: Vec<Option<Kind>>,
-    work: Vec<u32>,
 }
 
-/// Returns a kind for each label. A label to which others lead gets its kind from the first of them. The
-/// entries of rules, which stand first, are in the whole run. Errors: allocation failed.
+/// The depth of a root whose kind is not known. Code that no run reaches may begin below any number of slots.
+const SOME_DEPTH: u32 = 0x8000_0000;
+
+/// Returns a kind for each label. Labels of one set have kinds that differ by their depths alone. Calls and
+/// returns give the kind of a set; one without them is in the whole run. Errors: allocation failed.
 fn find_kinds(alloc: Global, code: &Bytecode<'_>) -> Result<Vec<Kind>, AllocError> {
-    let mut search = KindSearch {
-        kinds: Vec::new(alloc),
-        work: Vec::new(alloc),
-    };
-    for label in 0..u32::MAX {
-        if label as usize >= code.ops.len() {
-            break;
-        }
-        let known = if only_fails(code, label) {
-            Some(Kind::Anywhere)
-        } else {
-            None
-        };
-        search.kinds.push(known)?;
-    }
-    for label in 0..u32::MAX {
-        if label as usize >= code.ops.len() {
-            break;
-        }
-        let kind = search.kind_before(code, op_at(code, label));
-        search.put(label, kind)?;
-        search.visit_all(code)?;
-    }
-    let mut kinds = Vec::new(alloc);
-    for kind in &search.kinds {
-        kinds.push((*kind).unwrap_or(Kind::Anywhere))?;
-    }
-    Ok(kinds)
+    let mut sets = LabelSets::new(alloc, code.ops.len())?;
+    sets.join_all(code);
+    sets.place_all(code);
+    sets.kinds(alloc, code)
 }
 
-impl KindSearch {
-    /// Returns the kind of a label, if it is found and says where.
-    fn find(&self, label: u32) -> Option<Kind> {
-        match self.kinds.get(label as usize) {
-            Some(Some(Kind::Within(part, depth))) => Some(Kind::Within(*part, *depth)),
-            _ => None,
+impl LabelSets {
+    /// Makes a set of each label. Errors: allocation failed.
+    fn new(alloc: Global, count: usize) -> Result<LabelSets, AllocError> {
+        let mut sets = LabelSets {
+            parents: Vec::new(alloc),
+            depths: Vec::new(alloc),
+            sizes: Vec::new(alloc),
+            kinds: Vec::new(alloc),
+        };
+        for label in 0..u32::MAX {
+            if label as usize >= count {
+                break;
+            }
+            sets.parents.push(label)?;
+            sets.depths.push(0)?;
+            sets.sizes.push(1)?;
+            sets.kinds.push(None)?;
+        }
+        Ok(sets)
+    }
+
+    /// Returns the root of the set of a label, and how much deeper the label is.
+    fn find(&self, label: u32) -> (u32, u32) {
+        let mut here = label;
+        let mut depth = 0u32;
+        for _ in 0..u32::MAX {
+            let parent = match self.parents.get(here as usize) {
+                Some(parent) => *parent,
+                None => here,
+            };
+            if parent == here {
+                break;
+            }
+            depth = depth.wrapping_add(self.depths.get(here as usize).copied().unwrap_or(0));
+            here = parent;
+        }
+        (here, depth)
+    }
+
+    /// Puts a root below another one, deeper by `depth`.
+    fn attach(&mut self, root: u32, parent: u32, depth: u32) {
+        let size = self.sizes.get(root as usize).copied().unwrap_or(0);
+        if let Some(own) = self.sizes.get_mut(parent as usize) {
+            *own = own.saturating_add(size);
+        }
+        if let Some(own) = self.parents.get_mut(root as usize) {
+            *own = parent;
+        }
+        if let Some(own) = self.depths.get_mut(root as usize) {
+            *own = depth;
         }
     }
 
-    /// Returns a kind for an operation to which none leads: that of the label behind it, if this has one.
-    fn kind_before(&self, code: &Bytecode<'_>, op: Op) -> Kind {
-        let found = match op {
-            Op::Switch { table } => self.find_in_table(code, table),
-            Op::Note { next }
-            | Op::Miss { next, .. }
-            | Op::Leaf { next, .. }
-            | Op::All { next, .. }
-            | Op::One { next, .. }
-            | Op::IsOne { next, .. }
-            | Op::Text { next, .. } => self.find(next),
-            Op::Return => Some(Kind::Within(Scope::Call, 0)),
-            Op::Back => Some(Kind::Within(Scope::Sub, 0)),
-            _ => None,
-        };
-        found.unwrap_or(Kind::Within(Scope::Run, 0))
+    /// Joins the sets of two labels, of which `next` is deeper by `more`. Labels that may be run anywhere are
+    /// in no set with others.
+    fn join(&mut self, code: &Bytecode<'_>, label: u32, next: u32, more: u32) {
+        if only_fails(code, label) || only_fails(code, next) {
+            return;
+        }
+        let (left, left_depth) = self.find(label);
+        let (right, right_depth) = self.find(next);
+        if left == right {
+            return;
+        }
+        let depth = left_depth.wrapping_add(more).wrapping_sub(right_depth);
+        let left_size = self.sizes.get(left as usize).copied().unwrap_or(0);
+        let right_size = self.sizes.get(right as usize).copied().unwrap_or(0);
+        if left_size < right_size {
+            self.attach(left, right, 0u32.wrapping_sub(depth));
+        } else {
+            self.attach(right, left, depth);
+        }
     }
 
-    /// Returns the kind of the first label of a table that has one.
-    fn find_in_table(&self, code: &Bytecode<'_>, table: u32) -> Option<Kind> {
+    /// Joins the labels of all operations with those to which these lead.
+    fn join_all(&mut self, code: &Bytecode<'_>) {
+        for label in 0..u32::MAX {
+            if label as usize >= code.ops.len() {
+                break;
+            }
+            self.join_next(code, label);
+        }
+    }
+
+    /// Joins a label with those of a table.
+    fn join_table(&mut self, code: &Bytecode<'_>, label: u32, table: u32) {
         for number in 0..257u16 {
-            let kind = self.find(label_in(code, table, number));
-            if kind.is_some() {
-                return kind;
-            }
+            self.join(code, label, label_in(code, table, number), 0);
         }
-        None
     }
 
-    /// Gives a label a kind, if it has none. Errors: allocation failed.
-    fn put(&mut self, label: u32, kind: Kind) -> Result<(), AllocError> {
-        if let Some(own) = self.kinds.get_mut(label as usize) {
-            if own.is_none() {
-                *own = Some(kind);
-                self.work.push(label)?;
-            }
-        }
-        Ok(())
-    }
-
-    /// Visits all labels that are to be visited. Errors: allocation failed.
-    fn visit_all(&mut self, code: &Bytecode<'_>) -> Result<(), AllocError> {
-        for _ in 0..u64::MAX {
-            match self.work.pop() {
-                Some(label) => self.visit(code, label)?,
-                None => return Ok(()),
-            }
-        }
-        Ok(())
-    }
-
-    /// Gives the labels behind one their kinds. Errors: allocation failed.
-    fn visit(&mut self, code: &Bytecode<'_>, label: u32) -> Result<(), AllocError> {
-        let Some(kind) = self.find(label) else {
-            return Ok(());
-        };
+    /// Joins a label with those to which its operation leads.
+    fn join_next(&mut self, code: &Bytecode<'_>, label: u32) {
         match op_at(code, label) {
-            Op::Call { to, next, fail, .. } => {
-                self.put(to, Kind::Within(Scope::Call, 0))?;
-                self.put(next, kind)?;
-                self.put(fail, kind)
-            }
-            Op::Sub { to, next, fail } => {
-                self.put(to, Kind::Within(Scope::Sub, 0))?;
-                self.put(next, kind)?;
-                self.put(fail, kind)
-            }
+            Op::Fail | Op::Return | Op::Back | Op::Halt | Op::Lose => (),
+            Op::Switch { table } => self.join_table(code, label, table),
             Op::Try { next, fail } | Op::Not { next, fail } => {
-                self.put(next, deeper(kind))?;
-                self.put(fail, kind)
+                self.join(code, label, next, 1);
+                self.join(code, label, fail, 0);
             }
             Op::Commit { next } | Op::Ahead { next } | Op::Push { next } => {
-                self.put(next, higher(kind))
-            }
-            Op::Switch { table } => {
-                for number in 0..257u16 {
-                    self.put(label_in(code, table, number), kind)?;
-                }
-                Ok(())
+                self.join(code, label, next, u32::MAX);
             }
             Op::All { next, .. }
             | Op::Until { next, .. }
             | Op::Note { next }
             | Op::Miss { next, .. }
             | Op::Leaf { next, .. }
-            | Op::PushText { next, .. } => self.put(next, kind),
+            | Op::PushText { next, .. } => self.join(code, label, next, 0),
             Op::Gap { next, slow, .. } => {
-                self.put(next, kind)?;
-                self.put(slow, kind)
+                self.join(code, label, next, 0);
+                self.join(code, label, slow, 0);
             }
-            Op::One { next, fail, .. }
+            Op::Call { next, fail, .. }
+            | Op::Sub { next, fail, .. }
+            | Op::One { next, fail, .. }
             | Op::IsOne { next, fail, .. }
             | Op::Text { next, fail, .. }
             | Op::AnyCase { next, fail, .. }
@@ -401,26 +400,63 @@ impl KindSearch {
             | Op::PeekAll { next, fail }
             | Op::PopAll { next, fail }
             | Op::Slice { next, fail, .. } => {
-                self.put(next, kind)?;
-                self.put(fail, kind)
+                self.join(code, label, next, 0);
+                self.join(code, label, fail, 0);
             }
-            Op::Fail | Op::Return | Op::Back | Op::Halt | Op::Lose => Ok(()),
         }
     }
-}
 
-/// Returns the kind below one slot of a choice more.
-fn deeper(kind: Kind) -> Kind {
-    match kind {
-        Kind::Within(part, depth) => Kind::Within(part, depth.saturating_add(1)),
-        Kind::Anywhere => Kind::Anywhere,
+    /// Gives the set of a label its kinds, if it has none: those with which the label is in a scope, below no
+    /// slot of a choice.
+    fn place(&mut self, code: &Bytecode<'_>, label: u32, scope: Scope) {
+        if only_fails(code, label) {
+            return;
+        }
+        let (root, depth) = self.find(label);
+        if let Some(own) = self.kinds.get_mut(root as usize) {
+            if own.is_none() {
+                *own = Some(Kind::Within(scope, 0u32.wrapping_sub(depth)));
+            }
+        }
     }
-}
 
-/// Returns the kind below one slot of a choice less.
-fn higher(kind: Kind) -> Kind {
-    match kind {
-        Kind::Within(part, depth) => Kind::Within(part, depth.saturating_sub(1)),
-        Kind::Anywhere => Kind::Anywhere,
+    /// Gives kinds to the sets of labels to which calls lead, and of those that return.
+    fn place_all(&mut self, code: &Bytecode<'_>) {
+        for label in 0..u32::MAX {
+            if label as usize >= code.ops.len() {
+                break;
+            }
+            match op_at(code, label) {
+                Op::Call { to, .. } => self.place(code, to, Scope::Call),
+                Op::Sub { to, .. } => self.place(code, to, Scope::Sub),
+                Op::Return => self.place(code, label, Scope::Call),
+                Op::Back => self.place(code, label, Scope::Sub),
+                _ => (),
+            }
+        }
+    }
+
+    /// Returns the kind of a label.
+    fn kind_of(&self, code: &Bytecode<'_>, label: u32) -> Kind {
+        if only_fails(code, label) {
+            return Kind::Anywhere;
+        }
+        let (root, depth) = self.find(label);
+        match self.kinds.get(root as usize) {
+            Some(Some(Kind::Within(scope, own))) => Kind::Within(*scope, own.wrapping_add(depth)),
+            _ => Kind::Within(Scope::Run, SOME_DEPTH.wrapping_add(depth)),
+        }
+    }
+
+    /// Returns the kinds of all labels. Errors: allocation failed.
+    fn kinds(&self, alloc: Global, code: &Bytecode<'_>) -> Result<Vec<Kind>, AllocError> {
+        let mut kinds = Vec::new(alloc);
+        for label in 0..u32::MAX {
+            if label as usize >= code.ops.len() {
+                break;
+            }
+            kinds.push(self.kind_of(code, label))?;
+        }
+        Ok(kinds)
     }
 }

@@ -18,4 +18,4 @@ pub record Explains (name : List ℕ) (old new : Option (List ℕ)) : Type 0 whe
 
 -- that no code has a name
 abbrev pub unknown_line : List ℕ
-unknown_line = codes "no diagnostic has this code; one is pest::left_recursion\n"
+unknown_line = codes "unknown code; pest-lint --list shows all\n"

@@ -40,7 +40,8 @@ pub fn command<'a>(alloc: Global) -> Result<Command<'a>, AllocError>
     ensures name { IfOk result (λ command. (app_of command).top.name ≡ codes "pest-lint") }
     ensures arguments { IfOk result (λ command. arguments_of command ≡ option (codes "format")
         ∷ option (codes "color") ∷ flag (codes "deny-warnings") ∷ option (codes "warn") ∷ flag (codes "fix")
-        ∷ options (codes "start") ∷ option (codes "explain") ∷ positionals (codes "FILE") ∷ []) }
+        ∷ flag (codes "unsafe-fixes") ∷ flag (codes "diff") ∷ options (codes "start")
+        ∷ option (codes "explain") ∷ flag (codes "list") ∷ positionals (codes "FILE") ∷ []) }
 {
     let about = "Reports what is wrong with pest grammars, and how to mend it";
     let command = new_command(alloc, "pest-lint", about, STATUSES)?;
@@ -49,8 +50,11 @@ pub fn command<'a>(alloc: Global) -> Result<Command<'a>, AllocError>
     let command = add_argument(command, deny_argument(alloc))?;
     let command = add_argument(command, warn_argument(alloc))?;
     let command = add_argument(command, fix_argument(alloc))?;
+    let command = add_argument(command, unsafe_argument(alloc))?;
+    let command = add_argument(command, diff_argument(alloc))?;
     let command = add_argument(command, start_argument(alloc))?;
     let command = add_argument(command, explain_argument(alloc))?;
+    let command = add_argument(command, list_argument(alloc))?;
     add_argument(command, file_argument(alloc))
 }
 
@@ -76,14 +80,18 @@ fn colour_argument<'a>(alloc: Global) -> Arg<'a>
 fn deny_argument<'a>(alloc: Global) -> Arg<'a>
     ensures { HasForm (flag (codes "deny-warnings")) result }
 {
-    flag(alloc, "deny-warnings", "Let warnings end with status 1")
+    flag(
+        alloc,
+        "deny-warnings",
+        "Exit with status 1 on warnings, too",
+    )
 }
 
 /// `--warn`.
 fn warn_argument<'a>(alloc: Global) -> Arg<'a>
     ensures { HasForm (option (codes "warn")) result }
 {
-    let help = "Report names of keywords and builtins, and each rule without a call, too";
+    let help = "Report the warnings that are on request, too (--list shows which)";
     option(alloc, "warn", help)
         .value_name("all")
         .value_parser(["all"].as_slice())
@@ -93,15 +101,38 @@ fn warn_argument<'a>(alloc: Global) -> Arg<'a>
 fn fix_argument<'a>(alloc: Global) -> Arg<'a>
     ensures { HasForm (flag (codes "fix")) result }
 {
-    let help = "Fix syntax errors whose help shows how, replace the files, and report the rest";
+    let help = "Apply safe fixes, replace the files, and report the rest";
     flag(alloc, "fix", help)
+}
+
+/// `--unsafe-fixes`.
+fn unsafe_argument<'a>(alloc: Global) -> Arg<'a>
+    ensures { HasForm (flag (codes "unsafe-fixes")) result }
+{
+    let help = "Apply fixes that may change what the grammar matches, too";
+    flag(alloc, "unsafe-fixes", help)
+}
+
+/// `--diff`.
+fn diff_argument<'a>(alloc: Global) -> Arg<'a>
+    ensures { HasForm (flag (codes "diff")) result }
+{
+    let help = "Show what fixes would change, and write nothing (status 1 if there is something)";
+    flag(alloc, "diff", help)
+}
+
+/// `--list`.
+fn list_argument<'a>(alloc: Global) -> Arg<'a>
+    ensures { HasForm (flag (codes "list")) result }
+{
+    flag(alloc, "list", "List all diagnostic codes and exit")
 }
 
 /// `--start`.
 fn start_argument<'a>(alloc: Global) -> Arg<'a>
     ensures { HasForm (options (codes "start")) result }
 {
-    let help = "A rule with which matching starts, so that it needs no call";
+    let help = "Treat NAME as an entry point (it may be unused)";
     option(alloc, "start", help)
         .value_name("NAME")
         .action(ArgAction::Append)
@@ -111,7 +142,7 @@ fn start_argument<'a>(alloc: Global) -> Arg<'a>
 fn explain_argument<'a>(alloc: Global) -> Arg<'a>
     ensures { HasForm (option (codes "explain")) result }
 {
-    let help = "Explain a diagnostic, as pest::left_recursion, and end";
+    let help = "Explain a diagnostic code (e.g. pest::left_recursion) and exit";
     option(alloc, "explain", help).value_name("CODE")
 }
 

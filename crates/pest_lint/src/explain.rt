@@ -6,6 +6,7 @@ ghost use Rattle.pest_lint.specs.Reports.{Tells};
 
 use crate::lint::{CLEAN, MEMORY, UNREADABLE, UNWRITABLE};
 use lint_diagnostics::Code;
+use lint_findings::{Report, all_facts};
 use program_support::output::Output;
 use std::alloc::{AllocError, Global};
 use std::io::Write;
@@ -31,7 +32,7 @@ pub fn print_page<W: Write, E: Write>(
     ensures taken { result ≢ 4 → out.new.refused ≡ out.old.refused }
 {
     let Some(code) = Code::from_name(name) else {
-        let _ = err.write_line(&["no diagnostic has this code; one is pest::left_recursion"]);
+        let _ = err.write_line(&["unknown code; pest-lint --list shows all"]);
         return UNREADABLE;
     };
     let Ok(text) = page_text(alloc, code, code.explanation()) else {
@@ -41,6 +42,38 @@ pub fn print_page<W: Write, E: Write>(
         return UNWRITABLE;
     };
     CLEAN
+}
+
+/// Prints a line for each code to `out`: its name, how it is reported, and what it says; and answers the
+/// status. An allocation may fail (2), and `out` refuse a write (4).
+pub fn print_list<W: Write>(alloc: Global, out: &mut Output<W>) -> u8 {
+    let Ok(list) = list_text(alloc) else {
+        return MEMORY;
+    };
+    let Ok(()) = out.write_text(list.as_str()) else {
+        return UNWRITABLE;
+    };
+    CLEAN
+}
+
+/// A line for each code.
+fn list_text(alloc: Global) -> Result<String, AllocError> {
+    let mut text = String::new(alloc);
+    for facts in all_facts() {
+        let report = report_name(facts.report);
+        let line = format!(in alloc; "{:<27} {report:<10} {}\n", facts.name, facts.summary)?;
+        text.push_str(line.as_str())?;
+    }
+    Ok(text)
+}
+
+/// The words for how diagnostics of a code are reported.
+fn report_name(report: Report) -> &'static str {
+    match report {
+        Report::Error => "error",
+        Report::Warning => "warning",
+        Report::OnRequest => "on request",
+    }
 }
 
 /// The lines on a code: its name, whether it is an error, and its page.

@@ -13,6 +13,7 @@ ghost use Rattle.pest_lint.specs.Starts.{names_of, values_of};
 mod arguments;
 mod colours;
 mod counts;
+mod diff;
 mod explain;
 mod fixes;
 mod lint;
@@ -23,8 +24,8 @@ mod starts;
 use arguments::{Format, Settings, command, is_all, settings_of};
 use clap::ArgMatches;
 use colours::is_coloured;
-use explain::print_page;
-use fixes::fix_files;
+use explain::{print_list, print_page};
+use fixes::{FixOptions, fix_files, show_fixes};
 use front_names::Builtin;
 use lint::{CLEAN, MEMORY, Source, UNREADABLE, print_sources};
 use log::log_files;
@@ -78,6 +79,11 @@ fn explain_code(rt: &HostRuntime, name: &str) -> u8
     print_page(rt.alloc(), name, &mut out, &mut err)
 }
 
+/// Lists the codes, over the process's own output, and answers the status.
+fn list_codes(rt: &HostRuntime) -> u8 {
+    print_list(rt.alloc(), &mut Output::new(rt.stdout()))
+}
+
 /// The names of the rules that are starts. Where all warnings are asked for, or `--start` names some, one
 /// that no rule has is among them, so that the first rule is not taken for a start.
 fn starts_of<'a>(alloc: Global, matches: &'a ArgMatches<'_>) -> Result<Vec<&'a str>, AllocError>
@@ -102,9 +108,12 @@ fn run(rt: &HostRuntime, matches: &ArgMatches<'_>) -> Result<u8, AllocError> {
     if let Some(name) = matches.get_str("explain") {
         return Ok(explain_code(rt, name));
     }
+    if matches.get_flag("list") {
+        return Ok(list_codes(rt));
+    }
     let names = matches.get_strs("FILE").unwrap_or(&[]);
     if names.is_empty() {
-        let _ = eprintln!(rt; "no file is named; pest-lint --help shows the usage");
+        let _ = eprintln!(rt; "no grammar given; pest-lint --help shows the usage");
         return Ok(UNREADABLE);
     }
     let starts = starts_of(rt.alloc(), matches)?;
@@ -113,21 +122,20 @@ fn run(rt: &HostRuntime, matches: &ArgMatches<'_>) -> Result<u8, AllocError> {
     if let Some(name) = unknown_start(rt.alloc(), &sources, &starts)? {
         return report_start(rt, &sources, name);
     }
-    let fixed = fix_asked(rt, matches, &mut sources)?;
-    Ok(fixed.max(lint_files(rt, &sources, settings)))
-}
-
-/// Fixes files where that is asked for, and answers the status.
-fn fix_asked(
-    rt: &HostRuntime,
-    matches: &ArgMatches<'_>,
-    sources: &mut [Source],
-) -> Result<u8, AllocError> {
-    if matches.get_flag("fix") {
-        fix_files(rt, sources)
-    } else {
-        Ok(CLEAN)
+    let options = FixOptions {
+        takes_unsafe: matches.get_flag("unsafe-fixes"),
+        starts: &starts,
+    };
+    if matches.get_flag("diff") {
+        return show_fixes(rt, &sources, options);
     }
+    let is_fixed = matches.get_flag("fix") || options.takes_unsafe;
+    let fixed = if is_fixed {
+        fix_files(rt, &mut sources, options)?
+    } else {
+        CLEAN
+    };
+    Ok(fixed.max(lint_files(rt, &sources, settings)))
 }
 
 /// The status for the words of the command line.

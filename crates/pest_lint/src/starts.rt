@@ -79,11 +79,11 @@ pub(crate) fn report_start(
         Some(near) => {
             let near = to_visible(alloc, near)?;
             let _ = eprintln!(rt;
-                "no rule is called `{shown}`, which --start names; did you mean `{near}`?"
+                "there is no rule named `{shown}` for --start; did you mean `{near}`?"
             );
         }
         None => {
-            let _ = eprintln!(rt; "no rule is called `{shown}`, which --start names");
+            let _ = eprintln!(rt; "there is no rule named `{shown}` for --start");
         }
     }
     Ok(UNREADABLE)

@@ -173,11 +173,9 @@ struct pest_meta_empty {
 #endif
 
 /* Compiles a grammar. Status 1: the grammar has errors, which
- * pest_meta_parse_and_optimize writes. 2: an allocation failed, or the grammar is
- * one of a few that are wrongly refused (README.md, "Status and limits"). 3: it is
- * not UTF-8. 6: its rules call a
- * name that is neither a rule nor a builtin, or have a range with a bound that is
- * not one character. */
+ * pest_meta_parse_and_optimize writes. 2: an allocation failed. 3: it is
+ * not UTF-8. 6: its rules call a name that is neither a rule nor a builtin, or have
+ * a range with a bound that is not one character. */
 uint8_t pest_meta_compile(const uint8_t *grammar, size_t grammar_len, pest_meta_bytes *block);
 
 /* Compiles optimized rules in binary form, as pest_meta_prepare writes them.

@@ -1,5 +1,5 @@
 -- Code actions.
-use Rattle.std.specs.Prelude.{◌≡◌, ◌-◌, ◌==◌, ◌++◌, ◌||◌, ℕ, List, [], ◌∷◌, Bool, true, MatchBool, None, Option, Some, codes, is_none, length, string_bytes}
+use Rattle.std.specs.Prelude.{◌≡◌, ◌-◌, ◌==◌, ◌++◌, ◌||◌, ℕ, List, [], ◌∷◌, Bool, MatchBool, None, Option, Some, codes, is_none, length, string_bytes}
 use Rattle.lint_findings.specs.declared.diagnostic.Diagnostic.{Diagnostic}
 use Rattle.server_features.specs.Diagnostics.{diagnostic_data, extent_of}
 use Rattle.server_features.specs.Formatting.{do_touch}
@@ -38,7 +38,8 @@ reported_data context diagnostic = diagnostic_data context.client.has_related co
 abbrev pub action_data : Context → Diagnostic → Remedy → Data
 action_data context diagnostic remedy = object
     (member (codes "diagnostics") (array (item (reported_data context diagnostic) no_items))
-    (member (codes "edit") (remedy_data context remedy) (member (codes "isPreferred") (boolean true)
+    (member (codes "edit") (remedy_data context remedy)
+    (member (codes "isPreferred") (boolean remedy.is_preferred)
     (member (codes "kind") (string (codes "quickfix"))
     (member (codes "title") (string (string_bytes remedy.title)) no_members)))))
 

@@ -1,8 +1,10 @@
 -- Remedies.
-use Rattle.std.specs.Prelude.{◌≡◌, ◌&&◌, ◌++◌, [], ℕ, List, Bool, Option, Some, None, codes, find, length, nat_le, not, option_and_then, reverse, string_bytes, if◌then◌else◌}
+use Rattle.std.specs.Prelude.{◌≡◌, ◌&&◌, ◌++◌, [], ℕ, List, Bool, false, true, Option, Some, None, codes, find, length, nat_le, not, option_and_then, reverse, string_bytes, if◌then◌else◌}
 use Rattle.lint_findings.specs.declared.codes.Code.{Code}
 use Rattle.lint_findings.specs.declared.codes.Code.TheVariants as code
 use Rattle.lint_findings.specs.declared.diagnostic.Diagnostic.{Diagnostic}
+use Rattle.lint_hints.specs.declared.help.Applicability.{Applicability}
+use Rattle.lint_hints.specs.declared.help.Applicability.TheVariants as applicability
 use Rattle.lint_hints.specs.declared.help.Fix.{Fix}
 use Rattle.lint_hints.specs.declared.help.Help.{Help}
 use Rattle.server_requests.specs.Shown.{shown}
@@ -18,10 +20,15 @@ pub record Replaces (start end : ℕ) (replacement title : List ℕ) (remedy : R
   pub written : string_bytes remedy.replacement ≡ replacement
   pub titled : string_bytes remedy.title ≡ title
 
--- a remedy replaces what a fix does, by the same text, and its title is the message of the help
-abbrev pub AppliesFix : Fix → List ℕ → Remedy → Type 0
-AppliesFix fix message remedy =
-    Replaces fix.start fix.end (string_bytes fix.replacement) message remedy
+abbrev pub is_safe : Applicability → Bool
+is_safe applicability.Safe = true
+is_safe applicability.Unsafe = false
+
+-- a remedy replaces what a fix does, by the same text and under its title, and is preferred where it is safe
+abbrev pub AppliesFix : Fix → Remedy → Type 0
+AppliesFix fix remedy =
+    Replaces fix.start fix.end (string_bytes fix.replacement) (string_bytes fix.title) remedy
+    × (remedy.is_preferred ≡ is_safe fix.applicability)
 
 -- the text of the bytes of a diagnostic
 abbrev pub part_of : Context → Diagnostic → List ℕ
@@ -32,7 +39,7 @@ part_of context diagnostic =
 abbrev pub Defines : Context → List ℕ → Remedy → Type 0
 Defines context name remedy = Replaces (length context.text.now) (length context.text.now)
     (codes "\n" ++ (name ++ (codes " = { \"" ++ (name ++ codes "\" }\n"))))
-    (codes "define the rule `" ++ (name ++ codes "`")) remedy
+    (codes "Define the rule `" ++ (name ++ codes "`")) remedy × (remedy.is_preferred ≡ false)
 
 abbrev pub is_before : ℕ → Token → Bool
 is_before offset token = nat_le token.end offset && not (is_comment token.class)
@@ -53,7 +60,8 @@ abbrev pub Removes : Diagnostic → Option Token → Option Remedy → Type 0
 Removes diagnostic None remedy = remedy ≡ None
 Removes diagnostic (Some bar) None = ⊥
 Removes diagnostic (Some bar) (Some remedy) =
-    Replaces bar.start diagnostic.end [] (codes "remove this alternative") remedy
+    Replaces bar.start diagnostic.end [] (codes "Remove this alternative") remedy
+    × (remedy.is_preferred ≡ false)
 
 abbrev pub IsRemedyByCode : Context → Diagnostic → Code → Option Remedy → Type 0
 IsRemedyByCode context diagnostic code.UndefinedRule None = ⊥
@@ -63,14 +71,14 @@ IsRemedyByCode context diagnostic code.Unreachable remedy =
     Removes diagnostic (bar_before diagnostic.start context.tokens.now) remedy
 IsRemedyByCode context diagnostic _ remedy = remedy ≡ None
 
-abbrev pub IsRemedyByFix : Context → Diagnostic → List ℕ → Option Fix → Option Remedy → Type 0
-IsRemedyByFix context diagnostic message None remedy =
+abbrev pub IsRemedyByFix : Context → Diagnostic → Option Fix → Option Remedy → Type 0
+IsRemedyByFix context diagnostic None remedy =
     IsRemedyByCode context diagnostic diagnostic.code remedy
-IsRemedyByFix context diagnostic message (Some fix) None = ⊥
-IsRemedyByFix context diagnostic message (Some fix) (Some remedy) = AppliesFix fix message remedy
+IsRemedyByFix context diagnostic (Some fix) None = ⊥
+IsRemedyByFix context diagnostic (Some fix) (Some remedy) = AppliesFix fix remedy
 
 -- the remedy of a diagnostic: the fix of its help, where it has one, or else that of its code
 abbrev pub IsRemedyBy : Context → Diagnostic → Option Help → Option Remedy → Type 0
 IsRemedyBy context diagnostic None remedy = IsRemedyByCode context diagnostic diagnostic.code remedy
 IsRemedyBy context diagnostic (Some help) remedy =
-    IsRemedyByFix context diagnostic (string_bytes help.message) help.fix remedy
+    IsRemedyByFix context diagnostic help.fix remedy

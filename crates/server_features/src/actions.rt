@@ -168,7 +168,7 @@ fn action_value(
     json!(in alloc; {
         "title": &remedy.title,
         "kind": "quickfix",
-        "isPreferred": true,
+        "isPreferred": remedy.is_preferred,
         "diagnostics": [value],
         "edit": edit,
     })

@@ -5,7 +5,7 @@ ghost use Rattle.server_features.specs.Remedies.{Removes};
 ghost use Rattle.server_features.specs.Remedies as spec;
 
 use crate::diagnostics::extent_of;
-use lint_diagnostics::{Code, Diagnostic, Fix, Help};
+use lint_diagnostics::{Applicability, Code, Diagnostic, Fix, Help};
 use server_requests::context::Context;
 use server_symbols::{Extent, Token};
 use std::alloc::{AllocError, Global};
@@ -16,6 +16,8 @@ pub struct Remedy {
     pub extent: Extent,
     pub replacement: String,
     pub title: String,
+    /// Whether editors may apply it unasked.
+    pub is_preferred: bool,
 }
 
 /// Returns the remedy of a diagnostic: the fix of its help, or else that of its code.
@@ -27,25 +29,31 @@ pub fn remedy_of(
     ensures { IfOk result (IsRemedyBy context.now diagnostic.now diagnostic.now.help) }
 {
     match &diagnostic.help {
-        Some(
-            Help {
-                message,
-                fix: Some(fix),
-            },
-        ) => Ok(Some(fix_remedy(alloc, fix, message.as_str())?)),
+        Some(Help { fix: Some(fix), .. }) => Ok(Some(fix_remedy(alloc, fix)?)),
         _ => remedy_by_code(alloc, context, diagnostic),
     }
 }
 
 /// Returns the remedy that applies a fix.
-fn fix_remedy(alloc: Global, fix: &Fix, title: &str) -> Result<Remedy, AllocError>
-    ensures { IfOk result (AppliesFix fix.now title.now) }
+fn fix_remedy(alloc: Global, fix: &Fix) -> Result<Remedy, AllocError>
+    ensures { IfOk result (AppliesFix fix.now) }
 {
     Ok(Remedy {
         extent: extent_of(fix.start, fix.end),
         replacement: String::from_str(alloc, fix.replacement.as_str())?,
-        title: String::from_str(alloc, title)?,
+        title: String::from_str(alloc, fix.title.as_str())?,
+        is_preferred: is_safe(fix.applicability),
     })
+}
+
+/// Whether a fix may be applied unasked.
+fn is_safe(applicability: Applicability) -> bool
+    ensures { result ≡ spec.is_safe applicability }
+{
+    match applicability {
+        Applicability::Safe => true,
+        Applicability::Unsafe => false,
+    }
 }
 
 /// Returns the remedy of a diagnostic without a fix.
@@ -77,7 +85,8 @@ fn definition_remedy(alloc: Global, context: &Context<'_>, name: &str) -> Result
     Ok(Remedy {
         extent: extent_of(end, end),
         replacement: format!(in alloc; "\n{name} = {{ \"{name}\" }}\n")?,
-        title: format!(in alloc; "define the rule `{name}`")?,
+        title: format!(in alloc; "Define the rule `{name}`")?,
+        is_preferred: false,
     })
 }
 
@@ -95,7 +104,8 @@ fn removal_of(
     Ok(Some(Remedy {
         extent: extent_of(bar.start, diagnostic.end),
         replacement: String::new(alloc),
-        title: String::from_str(alloc, "remove this alternative")?,
+        title: String::from_str(alloc, "Remove this alternative")?,
+        is_preferred: false,
     }))
 }
 

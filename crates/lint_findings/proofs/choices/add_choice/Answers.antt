@@ -7,7 +7,7 @@ returns c = λ earlier all.
     let r = c.in_ok-diagnostic.ensures in
     first_told code.Unreachable earlier c.args.diagnostics.now.items c.push.new.self.items c.args.choice.now.spans.items c.in-Some.first.now _
     (rw c.deref.ensures.value at (rw c.in-Some.is at c.first.ensures.value))
-    (record { severity = r.severity; code = r.code; start = r.start; end = r.end })
+    (record { severity = r.severity; code = r.code; message = r.message; start = r.start; end = r.end })
     c.in_ok-push.ensures.items all
 
 pub returns-in_default : goal.returns-in_default
