@@ -73,7 +73,7 @@ abbrev pub between : ℕ → ℕ → List ℕ
 between m n = if m == 0 then at_most n else decimal m ++ codes " to " ++ decimal n ++ codes " times"
 
 module _ (number_of : List ℕ → Option ℕ) where
-  -- what a diagram shows, where rules have numbers by their names: each operand, and then what frames it
+  -- what a diagram shows, if rules have numbers by their names: each operand, and then what frames it
   abbrev pub diagram_marks : Expr → List Mark
   diagram_marks (Str s) = text_marks (leaf_label (expression_of (Str s)))
   diagram_marks (Insens s) = text_marks (leaf_label (expression_of (Insens s)))

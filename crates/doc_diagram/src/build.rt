@@ -256,7 +256,7 @@ impl<'e> BoxBuilder<'e> {
         Ok(())
     }
 
-    /// Encloses the last `count` boxes that have no parent yet; alternatives in columns where there are many.
+    /// Encloses the last `count` boxes that have no parent yet; alternatives in columns if there are many.
     fn enclose_roots(
         &mut self,
         content: BoxContent,

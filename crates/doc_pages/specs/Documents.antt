@@ -29,7 +29,7 @@ IsOneNamed name rules r = Contains rules r × (r.name ≡ chars name)
 abbrev pub HasNoneNamed : List ℕ → Grammar → Type 0
 HasNoneNamed name rules = All (λ r. r.name ≢ chars name) rules
 
--- the rule that is asked for: one of a name, or the first one where none is given
+-- the rule that is asked for: one of a name, or the first one if none is given
 abbrev pub IsAskedFor : Option (Bor (List ℕ)) → Grammar → AnyRule → Type 0
 IsAskedFor None rules r = slice_get rules 0 ≡ Some r
 IsAskedFor (Some name) rules r = IsOneNamed name.now rules r
@@ -39,7 +39,7 @@ abbrev pub HasNoRule : Option (Bor (List ℕ)) → Grammar → Type 0
 HasNoRule None rules = rules ≡ []
 HasNoRule (Some name) rules = HasNoneNamed name.now rules
 
--- a diagram of an expression with its style, without links, where rules have numbers by their names
+-- a diagram of an expression with its style, without links, if rules have numbers by their names
 pub record IsDiagramOf (number_of : List ℕ → Option ℕ) (e : Expr) (drawing : String Global) : Type 0 where
   pub tokens : List Markup
   pub written : string_bytes drawing ≡ markup_bytes [] tokens ++ codes "\n"

@@ -3,7 +3,7 @@ use Rattle.std.specs.Prelude.{ℕ, List, [], codes}
 use Rattle.base_ast.specs.declared.ast.RuleType.{RuleType}
 use Rattle.base_ast.specs.declared.ast.RuleType.TheVariants.{Normal, Silent, Atomic, CompoundAtomic, NonAtomic}
 
--- whether a rule gives tokens, and whether implicit whitespace is skipped in it, where its modifier says so
+-- whether a rule gives tokens, and whether implicit whitespace is skipped in it, if its modifier says so
 abbrev pub meaning : RuleType → List ℕ
 meaning Normal = []
 meaning Silent = codes "silent: gives no token"

@@ -95,7 +95,7 @@ module _ {A : Type 0} (item : A → List ℕ) where
       let g : size_bytes n ++ new ≡ size_bytes m ++ (flat_map item xs ++ t) = sym e ∙ (f ∙ append_assoc (size_bytes m) (flat_map item xs) t) in
       (sym (size_back m (flat_map item xs ++ t) less) ∙ (ap size_in (sym g) ∙ size_back n new small), sym (size_tail n new) ∙ (ap (drop 8) g ∙ size_tail m (flat_map item xs ++ t)))
 
-  -- where some items are left, one stands at the front
+  -- if some items are left, one stands at the front
   pub one_left : (xs : List A) (k : ℕ) (rest t : List ℕ) → k < length xs → rest ≡ flat_map item (drop k xs) ++ t
       → (x : A) × (rest ≡ item x ++ (flat_map item (drop (suc k) xs) ++ t))
   one_left [] k rest t l e = absurd (omega (arith, l))

@@ -93,7 +93,7 @@ starts [] = false
 starts ((None, t) ∷ xs) = false
 starts ((Some r, t) ∷ xs) = true
 
--- where no tree starts, none is shown
+-- if no tree starts, none is shown
 none_shown : (text : List ℕ) (before : Option (Text × ℕ)) (es : List Entry) → StartsNone es → starts (shown_of text before es) ≡ false
 unfolding starts
 none_shown text before [] s = refl

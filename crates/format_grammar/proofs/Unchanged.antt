@@ -1,4 +1,4 @@
--- A text is its own formatted text where its lines and its end are clean.
+-- A text is its own formatted text if its lines and its end are clean.
 use Rattle.std.proofs.Common.{◌≡◌, refl, ℕ, List, true}
 use Rattle.front_syntax.specs.declared.entries.Entry.{Entry}
 use Rattle.format_grammar.specs.Formatting.{AreTokens, EndsOnce, IsFormatted, start}

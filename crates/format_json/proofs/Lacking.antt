@@ -116,7 +116,7 @@ module _ {E : Type 0} (nodes : E → List Data) (view : E → Expression) (reads
       rest (x ∷ es) [] same h = of_none d ds h (x ∷ es) same
       rest (x ∷ es) (y ∷ ys) same h = other x y (map view es) ys (sym (flat_decoded (x ∷ es)) ∙ (ap decode same ∙ h))
 
--- what is refused where a node's operands are missing
+-- what is refused if a node's operands are missing
 module _ {E T : Type 0} (nodes : E → List Data) (none : (n : JsonNode) (ops : List E) → length ops < operand_count n → AreOfNone nodes (node_data n ∷ in_turn nodes ops)) where
   missing : (n m : JsonNode) (ops : List E) (r : Result T Unread) (why : Unread) → n ≡ m → IsErrAnd r (λ y. y ≡ why) → OnReason why (length ops < operand_count m)
       → IfErr r (λ y. OnReason y (AreOfNone nodes (node_data n ∷ in_turn nodes ops)))

@@ -15,7 +15,7 @@ found : (r : Rule) → find (has_name (name_of r)) (EOI ∷ meta_rules) ≡ Some
 found EOI = refl
 found _ = refl
 
--- where the first is none that is looked for, nor any other
+-- if the first is none that is looked for, nor any other
 nowhere : (first : Bool) (others : Option Rule) (q r : Rule) → first ≡ false → others ≡ None → cond first (Some q) others ≡ Some r → ⊥
 nowhere first others q r e h f = cc
 

@@ -1,4 +1,4 @@
--- Where a list of nodes is not read as an expression.
+-- If a list of nodes is not read as an expression.
 use Rattle.std.proofs.Common.{◌≡◌, ◌<◌, ℕ, zero, suc, eqb, false, List, [], ◌∷◌, ◌++◌, map, length, refl, sym, ap, ◌∙◌, subst, append_assoc, arith}
 use Rattle.std.specs.List.{flat_map}
 use Rattle.std.proofs.lemmas.List.{length-append, length-map, map-append}
@@ -47,7 +47,7 @@ module _ {E : Type 0} (nodes : E → List Data) where
   pub several : (all : List Value) (ops : List E) → in_turn nodes ops ≡ map view all → 1 < length ops → AreOfSeveral nodes (map view all)
   several all ops whole more = (turned ops, subst (λ n. 1 < n) (sym (length_turned ops)) more, flat_turned nodes ops ∙ whole)
 
-  -- so it is where an expression is taken from those that are read, and others are left
+  -- so it is if an expression is taken from those that are read, and others are left
   pub left_over : (all rest : List Value) (ops popped : List E) (x : E) → map view rest ++ in_turn nodes ops ≡ map view all → length rest ≡ 0
       → ops ≡ popped ++ (x ∷ []) → 0 < length popped → AreOfSeveral nodes (map view all)
   left_over all [] ops popped x whole none split some =

@@ -33,7 +33,7 @@ pub written_on : (values : List Value) (v : Value) (all next ops rest waiting ne
 written_on values v all next ops rest waiting new h i j k =
     ap (λ t. t ++ new) (map-append view values (v ∷ [])) ∙ (append_assoc (map view values) (view v ∷ []) new ∙ (ap (λ t. map view values ++ (view v ∷ t)) k ∙ (ap (λ t. map view values ++ (t ++ rest)) j ∙ (ap (λ t. map view values ++ t) (sym i) ∙ h))))
 
--- the same where the operands are what is left of it
+-- the same if the operands are what is left of it
 pub written_next : (old written all next ops rest waiting new : List Data) → old ++ waiting ≡ all → waiting ≡ next ++ rest → written ++ ops ≡ old ++ next → new ≡ ops ++ rest → written ++ new ≡ all
 written_next old written all next ops rest waiting new h i k j =
     ap (λ t. written ++ t) j ∙ (sym (append_assoc written ops rest) ∙ (ap (λ t. t ++ rest) k ∙ (append_assoc old next rest ∙ (ap (λ t. old ++ t) (sym i) ∙ h))))

@@ -64,7 +64,7 @@ pub record ReportWarnings (has_all : Bool) (starts : List Text) (text : List ℕ
   pub left : LeavesOutAllowed text rules all shown
   pub whole : diagnostics ≡ strays ++ shown
 
--- the diagnostics of a text, where rules of some names are starts: why it is refused, or its warnings, all of
+-- the diagnostics of a text, if rules of some names are starts: why it is refused, or its warnings, all of
 -- them or not
 pub data IsDiagnosisWith (has_all : Bool) (starts : List Text) (text : List ℕ) (diagnostics : List Diagnostic)
     : Type 0 where

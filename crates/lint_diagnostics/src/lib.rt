@@ -116,7 +116,7 @@ fn diagnose_accepted(
     Ok(diagnostics)
 }
 
-/// The warnings of rules that a text spells, all of them or not, where starts are also those that it states
+/// The warnings of rules that a text spells, all of them or not, if starts are also those that it states
 /// itself.
 fn warn_from(
     alloc: Global,
@@ -135,7 +135,7 @@ fn warn_from(
     warn_of(alloc, text, rules, &all, has_all)
 }
 
-/// Starts, and those that a text states itself. Where it states some, `SOI` is among them, so that the first
+/// Starts, and those that a text states itself. If it states some, `SOI` is among them, so that the first
 /// rule is not taken for a start.
 fn join_starts<'s>(
     alloc: Global,
@@ -194,7 +194,7 @@ fn diagnose_lists(
     compare_lists(alloc, &comparer, rules, names)
 }
 
-/// The rules of a text in both forms, or in none where there are too many rules.
+/// The rules of a text in both forms, or in none if there are too many rules.
 fn comparer_of<'t>(
     alloc: Global,
     text: &'t str,
@@ -234,7 +234,7 @@ fn compare_lists(
 }
 
 /// The note for the warning of that number, of a rule with this name: a text on which the rule ends otherwise
-/// as pest runs it. None where none is found, and after some warnings.
+/// as pest runs it. None if none is found, and after some warnings.
 fn notes_of(
     alloc: Global,
     comparer: &Comparer<'_>,

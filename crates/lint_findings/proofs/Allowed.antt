@@ -70,7 +70,7 @@ comment_allowed rule comments i comment first old new h e n o =
     ∙ map-append (allowance_of rule) (filter is_allowance (map fragment_of (take i comments))) (filter is_allowance (fragment_of comment ∷ [])) in
     n ∙ ap (λ xs. xs ++ of (fragment_of comment ∷ [])) o ∙ append_assoc first (of (map fragment_of (take i comments))) (of (fragment_of comment ∷ [])) ∙ ap (λ xs. first ++ xs) (sym whole)
 
--- the first of some, where there may be fewer, and the others
+-- the first of some, if there may be fewer, and the others
 pub take-least : {A : Type 0} (xs : List A) (n : ℕ) → take (min (length xs) n) xs ≡ take n xs
 take-least xs n =
     elim (cases_lt (length xs) n) [

@@ -17,7 +17,7 @@ first_comment-found line lines h = ap (λ b. cond b (Some line) (first_comment l
 pub first_comment-next : (line : Fragment) (lines : List Fragment) → has_starts line ≡ false → first_comment (line ∷ lines) ≡ first_comment lines
 first_comment-next line lines h = ap (λ b. cond b (Some line) (first_comment lines)) h
 
--- where the lines from one on have the comment, so have that line and those behind it
+-- if the lines from one on have the comment, so have that line and those behind it
 pub next_line : (lines : List code.Fragment) (i : ℕ) (line : code.Fragment) → i < length lines → line ≡ get_or lines i line
     → first_comment (map fragment_of (drop i lines)) ≡ first_comment (map fragment_of lines)
     → first_comment (fragment_of line ∷ map fragment_of (drop (i + 1) lines)) ≡ first_comment (map fragment_of lines)

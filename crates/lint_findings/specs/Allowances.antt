@@ -77,7 +77,7 @@ is_left allowances d = not (is_allowed allowances d)
 abbrev pub is_used : List Diagnostic → Allowance → Bool
 is_used diagnostics a = list_any (λ d. allows d a) diagnostics
 
--- its code is one that is reported only where all are asked for
+-- its code is one that is reported only if all are asked for
 abbrev pub is_of_option : Option Code → Bool
 is_of_option None = false
 is_of_option (Some c) = is_optional c

@@ -28,7 +28,7 @@ pub record Facts : Type 0 where
   pub message : List ℕ
   pub spans : List Text → List SpannedRule → List Span
 
--- of an error, of a warning, and of one that is reported where all are asked for
+-- of an error, of a warning, and of one that is reported if all are asked for
 abbrev pub error : List ℕ → Facts
 error name = record { name = name; report = report.Error; message = []; spans = λ starts rules. [] }
 
@@ -130,7 +130,7 @@ severity_as report.OnRequest = severity.Warning
 abbrev pub severity_of : Code → Severity
 severity_of c = severity_as (report_of c)
 
--- its warnings are reported only where all are asked for
+-- its warnings are reported only if all are asked for
 abbrev pub is_on_request : Report → Bool
 is_on_request report.Error = false
 is_on_request report.Warning = false
@@ -160,7 +160,7 @@ warnings_with starts rules c = map (warning c) (spans_of c starts rules)
 abbrev pub warnings_of : List Text → List SpannedRule → List Warning
 warnings_of starts rules = flat_map (warnings_with starts rules) warning_codes
 
--- where all are asked for, these too
+-- if all are asked for, these too
 abbrev pub all_warnings_of : List Text → List SpannedRule → List Warning
 all_warnings_of starts rules =
     warnings_of starts rules ++ flat_map (warnings_with starts rules) optional_codes

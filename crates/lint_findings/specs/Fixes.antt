@@ -31,7 +31,7 @@ abbrev pub IsFurther : ℕ → Fix → Option ℕ → Type 0
 IsFurther error fix None = ⊤
 IsFurther error fix (Some place) = IsBehind error fix place
 
--- a safe fix may be applied, and an unsafe one where that is asked for
+-- a safe fix may be applied, and an unsafe one if that is asked for
 abbrev pub is_allowed : Bool → Applicability → Bool
 is_allowed takes applicability.Safe = true
 is_allowed takes applicability.Unsafe = takes

@@ -35,7 +35,7 @@ pub enum Report {
     Error,
     /// As warnings.
     Warning,
-    /// As warnings, where all are asked for.
+    /// As warnings, if all are asked for.
     OnRequest,
 }
 
@@ -50,7 +50,7 @@ impl Report {
         }
     }
 
-    /// Whether it is reported only where all warnings are asked for.
+    /// Whether it is reported only if all warnings are asked for.
     fn is_on_request(self) -> bool
         ensures { result ≡ is_on_request self }
     {
@@ -153,7 +153,7 @@ impl Code {
         full == name || is_short(full.as_bytes(), name.as_bytes())
     }
 
-    /// Whether warnings of it are reported only where all are asked for.
+    /// Whether warnings of it are reported only if all are asked for.
     #[tactic(auto, unfolding(crate::specs::Codes::is_optional))]
     pub fn is_optional(self) -> bool
         ensures { result ≡ is_optional self }

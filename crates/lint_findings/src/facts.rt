@@ -16,7 +16,7 @@ pub struct Facts {
     pub report: Report,
     /// The message of its warnings; nothing of an error, which has a message of its own.
     pub message: &'static str,
-    /// How it is mended, where that depends on nothing else.
+    /// How it is mended, if that depends on nothing else.
     pub help: Option<&'static str>,
     /// When it is reported, an example, and how to mend it.
     pub page: &'static str,

@@ -27,7 +27,7 @@ pub(crate) fn help_of(
     }
 }
 
-/// The text of such a help: where it depends on more than the code, and otherwise that of the code's facts.
+/// The text of such a help: if it depends on more than the code, and otherwise that of the code's facts.
 fn help_text(code: Code, about: &str, is_repeat: bool) -> Option<&'static str> {
     match code {
         Code::MissingProperty => Some(pest_property_text()),

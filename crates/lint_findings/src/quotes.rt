@@ -114,7 +114,7 @@ fn bytes_of<'t>(text: &'t str, lexeme: Lexeme) -> &'t str {
     text.get(lexeme.start..lexeme.end).unwrap_or("")
 }
 
-/// The text between the quotes of a lexeme, where one double quote has no escape.
+/// The text between the quotes of a lexeme, if one double quote has no escape.
 fn inner_of<'t>(text: &'t str, lexeme: Lexeme) -> &'t str {
     let start = lexeme.start.saturating_add(1);
     let inner = text.get(start..lexeme.end.saturating_sub(1)).unwrap_or("");

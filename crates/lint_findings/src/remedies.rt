@@ -102,7 +102,7 @@ fn swap(
     Ok(Some(fix))
 }
 
-/// A safe fix: an option of what cannot fail is taken away, but where a repetition was meant to be lazy. A
+/// A safe fix: an option of what cannot fail is taken away, unless a repetition was meant to be lazy. A
 /// test of an option is no option.
 fn remove_option(alloc: Global, span: Span<'_>) -> Result<Option<Fix>, AllocError> {
     let text = span.as_str();

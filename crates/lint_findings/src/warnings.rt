@@ -41,7 +41,7 @@ pub fn diagnose_rules(
     diagnose_codes(alloc, &codes, rules, starts)
 }
 
-/// All warnings of rules, those that are reported only where they are asked for, too.
+/// All warnings of rules, those that are reported only if they are asked for, too.
 pub fn diagnose_all_rules(
     alloc: Global,
     rules: &[ParserRule<'_>],
@@ -65,7 +65,7 @@ fn codes_of(alloc: Global, facts: &[Facts]) -> Result<Vec<Code>, AllocError>
     facts.iter().map(|facts| facts.code).collect(alloc)
 }
 
-/// The codes but for those that are reported only where all are asked for.
+/// The codes but for those that are reported only if all are asked for.
 fn standard_codes(alloc: Global, codes: &[Code]) -> Result<Vec<Code>, AllocError>
     ensures { IfOk result (λ standard. standard.items ≡ filter (λ c. not (is_optional c)) codes.now) }
 {
@@ -76,7 +76,7 @@ fn standard_codes(alloc: Global, codes: &[Code]) -> Result<Vec<Code>, AllocError
         .collect(alloc)
 }
 
-/// The codes that are reported only where all are asked for.
+/// The codes that are reported only if all are asked for.
 fn optional_codes(alloc: Global, codes: &[Code]) -> Result<Vec<Code>, AllocError>
     ensures { IfOk result (λ optional. optional.items ≡ filter is_optional codes.now) }
 {
@@ -190,7 +190,7 @@ pub fn diagnose_list(
     Ok(diagnostic)
 }
 
-/// By the byte where a warning of a code begins, the bytes of what is the same before it, where that is told.
+/// By the byte where a warning of a code begins, the bytes of what is the same before it, if that is told.
 fn twins_of(
     alloc: Global,
     code: Code,
@@ -202,7 +202,7 @@ fn twins_of(
     }
 }
 
-/// The bodies of rules in the text of some spans, where the fixes for a code change them.
+/// The bodies of rules in the text of some spans, if the fixes for a code change them.
 fn bodies_for(alloc: Global, code: Code, spans: &[Span<'_>]) -> Result<Vec<RuleBody>, AllocError> {
     match (code, spans.first()) {
         (Code::MissingEnd | Code::BlanksInToken, Some(span)) => bodies_of(alloc, span.get_input()),

@@ -13,7 +13,7 @@ use Rattle.lint_output.specs.declared.Style.TheVariants as style
 use Rattle.lint_output.specs.declared.lines.Location.{Location}
 use Rattle.program_support.specs.Excerpts.{margin}
 
--- a severity's name, in its colour where that is asked for
+-- a severity's name, in its colour if that is asked for
 abbrev pub heading : Bool → Severity → List ℕ
 heading colour severity.Error =
     if colour then (27 ∷ codes "[1;31merror") ++ (27 ∷ codes "[0m") else codes "error"

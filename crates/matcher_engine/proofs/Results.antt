@@ -44,7 +44,7 @@ use Rattle.matcher_engine.specs.Reasons.{HasReason, IsLonger, ReadsEmptyStack}
 use Rattle.matcher_engine.specs.Runs.{HasFailed, HasFound, IsFresh}
 use Rattle.matcher_machine.specs.declared.machine.RunEnd.{RunEnd}
 
--- the configuration of a run from a position, where others are asked for, with a trace or none
+-- the configuration of a run from a position, if others are asked for, with a trace or none
 abbrev pub start_at : ℕ → Places → Option Trace → ℕ → Config
 start_at from asked trace l = record { pc = l; at = from; slots = []; trees = []; stack = []; furthest = 0; asked = asked; names = []; trace = trace }
 

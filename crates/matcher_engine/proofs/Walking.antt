@@ -39,7 +39,7 @@ none_closed k (t ∷ ts) h =
     (ap (λ b. if b then Leaves t ∷ closed k ts else []) e, ap (λ b. if b then left_open k ts else t ∷ ts) e)
 
 module _ (names : List Text) where
-  -- a tree and those behind it, where some ends come first
+  -- a tree and those behind it, if some ends come first
   abbrev after_ends : TreeNode → List TreeNode → ℕ → List Visit → List Visited → List Visit
   after_ends t ts k ends left =
       ends ++ Enters (entered names t k (length left)) ∷ remaining names ts (suc k) (entered names t k (length left) ∷ left)

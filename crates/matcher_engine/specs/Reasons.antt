@@ -1,4 +1,4 @@
--- Reasons of a stop, which hold also where the rule has no outcome.
+-- Reasons of a stop, which hold also if the rule has no outcome.
 use Rattle.std.specs.Prelude.{◌<◌, ⊤, ℕ, ◌*◌, List}
 use Rattle.base_language.specs.Language.Expression.{Grammar, Ident}
 use Rattle.base_language.specs.Language.Meaning.{Run, Task}
@@ -13,7 +13,7 @@ use Rattle.matcher_program.specs.Programs.{Fits}
 use Rattle.matcher_program.specs.Sizes.{most_steps}
 
 module _ (g : Grammar) (classes : Classes) (n : Text) (s : State) where
-  -- the rule, called in NonAtomic from a state, comes to a task in another one, where so many rules of the
+  -- the rule, called in NonAtomic from a state, comes to a task in another one, if so many rules of the
   -- relation of matching are applied
   abbrev pub RuleComesTo : ℕ → Task → State → Type 0
   RuleComesTo i k t = ComesTo g classes (Run NonAtomicMode (Ident n)) s i k t

@@ -33,7 +33,7 @@ visited row number depth r i j inner = record {
   depth = depth;
 }
 
--- the walk over trees that so many trees hold, where the first has a number: into each, over those that it
+-- the walk over trees that so many trees hold, if the first has a number: into each, over those that it
 -- holds, and out of it
 abbrev pub visits : (Text → ℕ) → (number depth : ℕ) → Trees → List Visit
 visits row number depth None' = []

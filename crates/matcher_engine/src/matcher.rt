@@ -49,7 +49,7 @@ pub(crate) fn entry_of(number: usize) -> Option<u32>
 }
 
 /// Runs code, fused, for the rule of a number from a position of a text on, in at most `steps` steps. Returns
-/// the end of the match, or `None` where the rule fails.
+/// the end of the match, or `None` if the rule fails.
 pub(crate) fn run_rule(
     machine: &mut Machine,
     alloc: Global,

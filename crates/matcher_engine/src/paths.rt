@@ -1,4 +1,4 @@
-//! Where in the grammar a text failed.
+//! If in the grammar a text failed.
 ghost use Rattle.std.specs.Prelude.{◌≡◌, Some, true};
 ghost use Rattle.base_language.specs.Language.Expression.{last_place};
 ghost use Rattle.base_language.specs.Language.Text.{Text};

@@ -7,7 +7,7 @@ use Rattle.base_language.specs.Language.Meaning.{Task, Run, Turns, Skipping, in_
 use Rattle.matcher_support.specs.Names.{tag_in}
 use Rattle.matcher_support.specs.Wrapped.{wrapper}
 
--- the second is the first with calls of rules of g for its tags, where it runs in a mode
+-- the second is the first with calls of rules of g for its tags, if it runs in a mode
 pub data Wraps (g : Grammar) (m : Mode) : Expression → Expression → Type 0 where
   str : {t : Text} → Wraps g m (Str t) (Str t)
   insens : {t : Text} → Wraps g m (Insens t) (Insens t)

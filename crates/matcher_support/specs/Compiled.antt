@@ -26,7 +26,7 @@ use Rattle.matcher_support.specs.Sets.{is_in_property}
 use Rattle.matcher_support.specs.declared.attempts.NamedAttempts.{NamedAttempts}
 use Rattle.matcher_support.specs.declared.compiled.CompiledGrammar.{CompiledGrammar}
 
--- the block of optimized rules, where property names have the sets of Unicode
+-- the block of optimized rules, if property names have the sets of Unicode
 pub record IsCompiled (rules : List OptimizedRule) (block : List ℕ) : Type 0 where
   pub whole : IsWhole block
   pub code : IsBlockOf (optimized_rules_of rules) is_in_property block
@@ -65,7 +65,7 @@ ArePathsIn g rule text place paths = (o : Outcome) × (d : Has g (chars rule) te
 abbrev pub FailsIn : Grammar → List ℕ → List ℕ → ℕ → Type 0
 FailsIn g rule text place = (d : Has g (chars rule) text is_in_property Failure) × (place ≡ furthest d)
 
--- why a run, of so many steps at most, has no answer where a failure has one
+-- why a run, of so many steps at most, has no answer if a failure has one
 abbrev pub IsUnanswered : Grammar → List ℕ → List ℕ → ℕ → BlockStop → Type 0
 IsUnanswered g rule text steps (stop.NoMatch place) = ⊥
 IsUnanswered g rule text steps (stop.Stopped why) =

@@ -17,7 +17,7 @@ abbrev pub list_text : List Text → List ℕ
 list_text [] = []
 list_text (n ∷ ns) = encode_utf8_all n ++ other_names (length ns == 1) ns
 
--- `expected a, b, or c`; and another text where nothing is expected
+-- `expected a, b, or c`; and another text if nothing is expected
 abbrev pub failure_message : List Text → List ℕ
 failure_message [] = codes "unknown parsing error"
 failure_message names = codes "expected " ++ list_text names

@@ -30,7 +30,7 @@ abbrev pub is_left : Visit → Bool
 is_left (Enters t) = false
 is_left (Leaves t) = true
 
--- the part that a visit adds, where `later` says whether a tree was left before it
+-- the part that a visit adds, if `later` says whether a tree was left before it
 abbrev pub piece : List ℕ → Bool → Visit → List ℕ
 piece text later (Enters t) = comma_if later ++ (if is_leaf t then [] else codes "{\"children\":[")
 piece text later (Leaves t) = closing text (is_leaf t) (encode_utf8_all t.rule) t.node.start t.node.end

@@ -24,7 +24,7 @@ abbrev pub has_trees : TaggedTrees → Bool
 has_trees NoTokens = false
 has_trees (Token r i j inner others) = true
 
--- the last of the trees gets a tag in place of its own; where there is no tree, nothing does
+-- the last of the trees gets a tag in place of its own; if there is no tree, nothing does
 abbrev pub with_tag : Text → TaggedTrees → TaggedTrees
 with_tag t NoTokens = NoTokens
 with_tag t (Token r i j inner others) =
@@ -45,7 +45,7 @@ called r m s Failure body us = us
 called r m s (Success t vs) body us =
     if gives_token r.type_of m then with_tree r.name s.position t.position body us else body us
 
--- The trees of a match, after those that precede it inside the same tree. Where a tagged expression has
+-- The trees of a match, after those that precede it inside the same tree. If a tagged expression has
 -- matched, the last tree so far gets the tag, if the mode gives tokens.
 abbrev pub tagged : {g : Grammar} {classes : Classes} {k : Task} {s : State} {o : Outcome}
     → Does g classes k s o → TaggedTrees → TaggedTrees

@@ -21,7 +21,7 @@ use std::io::Write;
 /// Prints the rules of a grammar to `out`, a line each as `name = modifier{ expr }`, and answers 0.
 ///
 /// Otherwise one text with a line break at its end goes to `err`: the report of a text that is refused (1),
-/// `out of memory` (2), `cannot read` where there is no input or it isn't UTF-8 (3), `cannot write` where
+/// `out of memory` (2), `cannot read` if there is no input or it isn't UTF-8 (3), `cannot write` if
 /// `out` refuses a write (4), which keeps the part that it took before. All lines are made before the first
 /// one is written. A write that `err` refuses changes no status.
 pub fn run<W: Write, E: Write>(

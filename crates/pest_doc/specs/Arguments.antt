@@ -4,7 +4,7 @@ use Rattle.std.specs.Option.{option_map}
 use Rattle.pest_doc.specs.declared.arguments.DocumentFormat.{DocumentFormat}
 use Rattle.pest_doc.specs.declared.arguments.DocumentFormat.TheVariants as format
 
--- the format of this name; html where the name is no other's
+-- the format of this name; html if the name is no other's
 abbrev pub IsNamed : Option (List ℕ) → DocumentFormat → Type 0
 IsNamed name format.Html =
     (name ≢ Some (codes "svg")) × (name ≢ Some (codes "markdown")) × (name ≢ Some (codes "ebnf"))

@@ -14,7 +14,7 @@ use std::alloc::{AllocError, Global};
 pub enum DocumentFormat<'a> {
     /// A page of all rules.
     Html,
-    /// The diagram of the rule of a name; of the first rule where none is given.
+    /// The diagram of the rule of a name; of the first rule if none is given.
     Svg(Option<&'a str>),
     Markdown,
     Ebnf,
@@ -77,7 +77,7 @@ fn grammar_argument<'a>(alloc: Global) -> Arg<'a>
     positional(alloc, "GRAMMAR", "A grammar; - is standard input").required(true)
 }
 
-/// Returns the document that a command line asks for; `None` where it names a rule, and asks for no diagram.
+/// Returns the document that a command line asks for; `None` if it names a rule, and asks for no diagram.
 pub fn format_of<'m>(matches: &'m ArgMatches<'_>) -> Option<DocumentFormat<'m>>
     ensures format { IfSome result (IsNamed (first_value (found_of matches.entry.now) (codes "format"))) }
     ensures rule { IfSome result

@@ -16,11 +16,11 @@ use program_support::escape::{escape, escape_lines};
 use program_support::messages::place_error;
 use std::alloc::{AllocError, Global};
 
-/// The message for a rule that is named where no diagram is asked for.
+/// The message for a rule that is named although no diagram is asked for.
 pub const NO_DIAGRAM: &str = "--rule is for --format svg alone; pest-doc --help shows the usage\n";
 
 /// Returns the message that a grammar has no rule of a name, with the nearest of its names, if one is near;
-/// where no name is given, that it has no rule at all.
+/// if no name is given, that it has no rule at all.
 pub fn has_no_rule(
     alloc: Global,
     file: &str,

@@ -17,7 +17,7 @@ pub record PrintsFormatted (line_ends : LineEnds) (text : List ℕ) (old new : O
   pub is_formatted : IsFormatted line_ends text formatted
   pub gained : Appends old new formatted
 
--- a text replaces that of a file only where this is asked for, and it is the formatted one
+-- a text replaces that of a file only if this is asked for, and it is the formatted one
 abbrev pub IsReplacement : LineEnds → Target → List ℕ → Processed → Type 0
 IsReplacement line_ends target text (Ended status) = ⊤
 IsReplacement line_ends target text (Replacement formatted) =

@@ -96,7 +96,7 @@ fn runs_of(alloc: Global, old: &[&str], new: &[&str]) -> Result<Vec<Run>, AllocE
     Ok(runs)
 }
 
-/// Adds a run, to the last one where nothing is kept between them.
+/// Adds a run, to the last one if nothing is kept between them.
 fn add_run(runs: &mut Vec<Run>, run: Run) -> Result<(), AllocError> {
     if run.kept == 0 {
         if let Some(last) = runs.last_mut() {

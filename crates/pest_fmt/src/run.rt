@@ -15,7 +15,7 @@ use std::alloc::AllocError;
 use std::io::Write;
 
 /// Formats the files of these names, `-` being standard input, and returns the status with the highest
-/// number. Stops where standard output refuses a write. The only error is an allocation failure. No clause
+/// number. Stops if standard output refuses a write. The only error is an allocation failure. No clause
 /// can say what the files have, nor what becomes of them.
 pub fn format_files(
     rt: &HostRuntime,

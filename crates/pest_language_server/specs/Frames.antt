@@ -94,7 +94,7 @@ abbrev pub IsByteRead : Option (List ℕ) → Option (List ℕ) → Option ℕ �
 IsByteRead old new None = LosesAll old new []
 IsByteRead old new (Some byte) = Consumes old new (byte ∷ [])
 
--- an input gives a line; none where the input ends first
+-- an input gives a line; none if the input ends first
 abbrev pub IsLineRead : Option (List ℕ) → Option (List ℕ) → Option (Vec ℕ Global) → Type 0
 IsLineRead old new None = (part : List ℕ) × IsPart part × LosesAll old new part
 IsLineRead old new (Some line) = IsLine line.items × Consumes old new line.items

@@ -64,7 +64,7 @@ IsAnswerOf request.RangeFormatting context params a = AreRangeFormatting context
 IsAnswerOf request.CodeAction context params a = AreActions context params a
 IsAnswerOf request.SemanticTokens context params a = IsResult a
 
--- an answer to a request about the open document that parameters name, or an error where they name none
+-- an answer to a request about the open document that parameters name, or an error if they name none
 abbrev pub AnswersForDocument : Client → Documents → RequestMethod → Data → Answer → Type 0
 AnswersForDocument client documents request params a =
     (LacksDocument documents params × IsError InvalidParams a)

@@ -30,7 +30,7 @@ pub record Answers (old new : Server) (input rest output grown : Option (List �
   pub sent : Sends output grown reply.body
 
 -- a server answers frames of an input, one after another, up to a status: that of the reply that has one,
--- or 1 where the input ends, or a read or a write fails
+-- or 1 if the input ends, or a read or a write fails
 pub data Serves : Server → Option (List ℕ) → Option (List ℕ) → ℕ → Type 0 where
   ends : (server : Server) (input output : Option (List ℕ)) → Serves server input output 1
   exits : (old new : Server) (input rest output grown : Option (List ℕ)) (reply : Reply) (status : ℕ)
@@ -39,7 +39,7 @@ pub data Serves : Server → Option (List ℕ) → Option (List ℕ) → ℕ →
   answers : (old new : Server) (input rest output grown : Option (List ℕ)) (reply : Reply) (status : ℕ)
       → Answers old new input rest output grown reply → reply.exit ≡ None
       → Serves new rest grown status → Serves old input output status
-  -- where there is no memory even for an error, nothing is written
+  -- if there is no memory even for an error, nothing is written
   forgets : (old new : Server) (input rest output : Option (List ℕ)) (frame : InputFrame) (status : ℕ)
       → IsFrameRead input rest frame → Serves new rest output status → Serves old input output status
 

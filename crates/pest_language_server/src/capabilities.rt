@@ -94,7 +94,7 @@ fn renames(alloc: Global) -> Result<Value, AllocError> {
 
 /// Returns the kinds of code actions.
 fn code_actions(alloc: Global) -> Result<Value, AllocError> {
-    json!(in alloc; { "codeActionKinds": ["quickfix"] })
+    json!(in alloc; { "codeActionKinds": ["quickfix", "source.fixAll"] })
 }
 
 /// Returns how documents are synchronized: by edits.

@@ -62,7 +62,7 @@ fn error_reply(
     Ok(reply_of(body))
 }
 
-/// Returns the response to a request, also where there was no memory for its answer.
+/// Returns the response to a request, also if there was no memory for its answer.
 pub(crate) fn respond(
     alloc: Global,
     id: &Value,
@@ -76,7 +76,7 @@ pub(crate) fn respond(
     }
 }
 
-/// Returns the response to a request by an answer, also where there was no memory for that.
+/// Returns the response to a request by an answer, also if there was no memory for that.
 fn respond_by(alloc: Global, id: &Value, answer: Answer) -> Result<Reply, AllocError>
     ensures { IfOk result (IsOneMessage (IsResponse (λ given. given ≡ answer) (view id.now))) }
 {

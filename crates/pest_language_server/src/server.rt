@@ -73,7 +73,7 @@ impl Server {
         }
     }
 
-    /// Takes the body of a message, and returns the reply. Fails where there is no memory even for an error;
+    /// Takes the body of a message, and returns the reply. Fails if there is no memory even for an error;
     /// the documents are then as before, or have taken the change.
     pub fn handle(&mut self, alloc: Global, body: &[u8]) -> Result<Reply, AllocError>
         ensures { IfOk result (RepliesTo self.old self.new body.now) }
@@ -119,7 +119,7 @@ impl Server {
         }
     }
 
-    /// Takes a request, and returns the reply, also where there was no memory for the answer.
+    /// Takes a request, and returns the reply, also if there was no memory for the answer.
     fn handle_request(
         &mut self,
         alloc: Global,

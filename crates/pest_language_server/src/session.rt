@@ -12,7 +12,7 @@ use std::io::{self, BufRead, Write};
 const FAILED: u8 = 1;
 
 /// Answers frames up to the notification `exit`, the input's end, or a failed read or write. Returns the
-/// status with which the process is to end: 0 where `shutdown` and `exit` came, else 1. Any read or write may
+/// status with which the process is to end: 0 if `shutdown` and `exit` came, else 1. Any read or write may
 /// fail, so no clause refuses a session that ends early, with status 1.
 pub fn run<R: BufRead, W: Write>(alloc: Global, input: &mut R, out: &mut W) -> u8
     ensures { IsSession (R.remaining input.old) (W.contents out.old) result }
@@ -49,7 +49,7 @@ fn step<R: BufRead, W: Write>(
     if matches!(frame, InputFrame::End) {
         return Ok(Some(FAILED));
     }
-    // Where there is no memory even for an error, nothing is sent.
+    // If there is no memory even for an error, nothing is sent.
     let Ok(reply) = reply_to(alloc, server, &frame) else {
         return Ok(None);
     };

@@ -13,18 +13,17 @@ use Rattle.lint_output.specs.Sarif.{IsRule, result_data}
 use Rattle.lint_findings.specs.declared.codes.Code.{Code}
 use Rattle.lint_findings.specs.declared.facts.Facts.{Facts}
 use Rattle.lint_output.proofs.Floats.{append_free, results_free, rule_free}
-use Rattle.lint_diagnostics.specs.Diagnosis.{IsDiagnosisWith}
 use Rattle.pest_lint.specs.Logs.{AreLogged, AreRules, Logs, Part, all_results, highest_part, read, results_of, unread}
-use Rattle.pest_lint.specs.Shows.{Asked, IsReadable, status_of}
+use Rattle.pest_lint.specs.Shows.{AreShown, Asked, IsReadable, status_of}
 use Rattle.pest_lint.specs.declared.lint.Source.{Source}
 use Rattle.pest_lint.proofs.Printing.{zip_end, zip_next}
 
 -- a file's diagnostics are logged, and of one that can't be read nothing
 pub read_logged : (asked : Asked) (source : Source) (name text : List ℕ) (ds : List Diagnostic) (status : ℕ) (old new : List Data) → IsReadable source → name ≡ string_bytes source.name → text ≡ source.bytes.items
-    → IsDiagnosisWith asked.all asked.starts text ds → status ≡ status_of asked.deny ds → new ≡ old ++ map (result_data name text) ds → (added : List Data) × Logs asked source added status × (new ≡ old ++ added)
+    → AreShown asked text ds → status ≡ status_of asked ds → new ≡ old ++ map (result_data name text) ds → (added : List Data) × Logs asked source added status × (new ≡ old ++ added)
 read_logged asked source name text ds status old new readable called same d whole e = (
   results_of source ds,
-  subst (λ n. Logs asked source (results_of source ds) n) (sym whole) (read ds readable (subst (λ t. IsDiagnosisWith asked.all asked.starts t ds) same d)),
+  subst (λ n. Logs asked source (results_of source ds) n) (sym whole) (read ds readable (subst (λ t. AreShown asked t ds) same d)),
   subst (λ n. new ≡ old ++ map (result_data n source.bytes.items) ds) called (subst (λ t. new ≡ old ++ map (result_data name t) ds) same e),
 )
 

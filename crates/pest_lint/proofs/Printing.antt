@@ -1,14 +1,14 @@
 -- What is printed of diagnostics and of files, one after another.
-use Rattle.std.proofs.Common.{◌≡◌, ℕ, zero, suc, ◌+◌, ◌<◌, ◌≤◌, List, [], ◌∷◌, ◌++◌, All, Bool, true, false, ◌||◌, Option, Some, None, if◌then◌else◌, length, drop, take, get_or, sym, ap, ◌∙◌, add-one, append_assoc, append-nil, drop-cons, string_bytes, subst, arith, refl}
+use Rattle.std.proofs.Common.{◌≡◌, ℕ, zero, suc, ◌+◌, ◌<◌, ◌≤◌, List, [], ◌∷◌, ◌++◌, All, Bool, true, false, ◌||◌, Option, Some, None, filter, if◌then◌else◌, length, not, drop, take, get_or, sym, ap, ◌∙◌, add-one, append_assoc, append-nil, drop-cons, string_bytes, subst, arith, refl}
 use Rattle.std.proofs.lemmas.List.{drop_all, take_all, take_more}
 use Rattle.std.proofs.lemmas.List.Elements.{All-append}
+use Rattle.std.proofs.lemmas.Map.Views.{any-filter_same}
 use Rattle.std.specs.List.{AllZip, list_any}
 use Rattle.std.specs.Io.KnownBytes.{Appends}
 use Rattle.lint_findings.specs.Reports.{is_error}
 use Rattle.lint_findings.specs.declared.diagnostic.Diagnostic.{Diagnostic}
 use Rattle.lint_output.specs.declared.Style.{Style}
-use Rattle.lint_diagnostics.specs.Diagnosis.{IsDiagnosisWith}
-use Rattle.pest_lint.specs.Shows.{ArePrinted, Asked, Gains, IsReadable, ShowsText, counts, read, status_of, unread}
+use Rattle.pest_lint.specs.Shows.{ArePrinted, AreShown, Asked, Gains, IsReadable, ShowsText, counts, has_one_of, is_shown, read, status_of, unread}
 use Rattle.pest_lint.specs.declared.lint.Source.{Source}
 
 -- two gains in turn, and none
@@ -46,30 +46,39 @@ pub all_of : {X : Type 0} (P : X → Type 0) (xs : List X) (i : ℕ) → length 
 all_of P xs i h k = subst (λ ys. All P ys) (take_all i xs h) k
 
 -- a status of 0 is that of no error
-one_clean : (deny e more : Bool) → ((deny || e) || more) ≡ false → (e ≡ false) × (more ≡ false)
-one_clean true e more h = cc
-one_clean false true more h = cc
-one_clean false false more h = (refl, h)
+one_clean : (deny e one more : Bool) → ((deny || (e || one)) || more) ≡ false → (e ≡ false) × (more ≡ false)
+one_clean true e one more h = cc
+one_clean false true one more h = cc
+one_clean false false true more h = cc
+one_clean false false false more h = (refl, h)
 
-none_counts : (deny : Bool) (ds : List Diagnostic) → list_any (counts deny) ds ≡ false → list_any is_error ds ≡ false
-none_counts deny [] h = refl
-none_counts deny (d ∷ ds) h =
-    let p = one_clean deny (is_error d) (list_any (counts deny) ds) h in
-    rw (p.0) (none_counts deny ds p.1)
+none_counts : (asked : Asked) (ds : List Diagnostic) → list_any (counts asked) ds ≡ false → list_any is_error ds ≡ false
+none_counts asked [] h = refl
+none_counts asked (d ∷ ds) h =
+    let p = one_clean asked.deny (is_error d) (has_one_of asked.denied d) (list_any (counts asked) ds) h in
+    rw (p.0) (none_counts asked ds p.1)
 
 zero_none : (b : Bool) → ◌≡◌ {A = ℕ} (if b then 1 else 0) 0 → b ≡ false
 zero_none true h = absurd (omega arith)
 zero_none false h = refl
 
-pub no_errors : (deny : Bool) (ds : List Diagnostic) → status_of deny ds ≡ 0 → list_any is_error ds ≡ false
-no_errors deny ds h = none_counts deny ds (zero_none (list_any (counts deny) ds) h)
+pub no_errors : (asked : Asked) (ds : List Diagnostic) → status_of asked ds ≡ 0 → list_any is_error ds ≡ false
+no_errors asked ds h = none_counts asked ds (zero_none (list_any (counts asked) ds) h)
+
+-- errors are shown
+always_shown : (b c : Bool) → b ≡ true → (b || not c) ≡ true
+always_shown true c h = refl
+always_shown false c h = cc
+
+pub errors_shown : (asked : Asked) (ds : List Diagnostic) → list_any is_error (filter (is_shown asked) ds) ≡ list_any is_error ds
+errors_shown asked ds = any-filter_same is_error (is_shown asked) true (λ d e. always_shown (is_error d) (has_one_of asked.allowed d) e) ds
 
 -- the status by whether one counts
-pub found_status : (deny : Bool) (ds : List Diagnostic) (b : Bool) → b ≡ list_any (counts deny) ds → b ≡ true → ◌≡◌ {A = ℕ} 1 (status_of deny ds)
-found_status deny ds b e h = subst (λ (x : Bool). ◌≡◌ {A = ℕ} 1 (if x then 1 else 0)) (sym h ∙ e) refl
+pub found_status : (asked : Asked) (ds : List Diagnostic) (b : Bool) → b ≡ list_any (counts asked) ds → b ≡ true → ◌≡◌ {A = ℕ} 1 (status_of asked ds)
+found_status asked ds b e h = subst (λ (x : Bool). ◌≡◌ {A = ℕ} 1 (if x then 1 else 0)) (sym h ∙ e) refl
 
-pub clean_status : (deny : Bool) (ds : List Diagnostic) (b : Bool) → b ≡ list_any (counts deny) ds → b ≡ false → ◌≡◌ {A = ℕ} 0 (status_of deny ds)
-clean_status deny ds b e h = subst (λ (x : Bool). ◌≡◌ {A = ℕ} 0 (if x then 1 else 0)) (sym h ∙ e) refl
+pub clean_status : (asked : Asked) (ds : List Diagnostic) (b : Bool) → b ≡ list_any (counts asked) ds → b ≡ false → ◌≡◌ {A = ℕ} 0 (status_of asked ds)
+clean_status asked ds b e h = subst (λ (x : Bool). ◌≡◌ {A = ℕ} 0 (if x then 1 else 0)) (sym h ∙ e) refl
 
 -- a file's text is shown, and of one that can't be read nothing
 pub shown_text : (asked : Asked) (style : Style) (source : Source) (name text : List ℕ) (status : ℕ) (old new : Option (List ℕ)) → IsReadable source → name ≡ string_bytes source.name → text ≡ source.bytes.items
@@ -81,6 +90,6 @@ pub shown_unread : (asked : Asked) (style : Style) (source : Source) (old : Opti
 shown_unread asked style source old refuse = ([], unread refuse, no_gain old)
 
 -- the diagnostics of a text are printed, all of them
-pub text_shown : (asked : Asked) (style : Style) (name text : List ℕ) (ds : List Diagnostic) (status : ℕ) (old new : Option (List ℕ)) → IsDiagnosisWith asked.all asked.starts text ds → status ≡ status_of asked.deny ds
+pub text_shown : (asked : Asked) (style : Style) (name text : List ℕ) (ds : List Diagnostic) (status : ℕ) (old new : Option (List ℕ)) → AreShown asked text ds → status ≡ status_of asked ds
     → (bytes : List ℕ) × ArePrinted style name text ds bytes × Appends old new bytes → (bytes : List ℕ) × ShowsText asked style name text bytes status × Appends old new bytes
 text_shown asked style name text ds status old new d whole h = (h.0, record { diagnostics = ds; diagnosis = d; printed = h.1; whole = whole }, h.2)

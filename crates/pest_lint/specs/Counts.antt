@@ -25,7 +25,7 @@ errors_text n = count_text n.errors (codes "error")
 abbrev pub warnings_text : Counts → List ℕ
 warnings_text n = count_text n.warnings (codes "warning")
 
--- the line of both, without what there is none of; nothing where there is neither
+-- the line of both, without what there is none of; nothing if there is neither
 abbrev pub counts_line : Counts → List ℕ
 counts_line n =
     if n.warnings == 0 then (if n.errors == 0 then [] else errors_text n ++ codes "\n")

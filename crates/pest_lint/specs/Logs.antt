@@ -9,8 +9,7 @@ use Rattle.lint_output.specs.Json.{json_line}
 use Rattle.lint_output.specs.Sarif.{IsRule, log_data, result_data}
 use Rattle.lint_findings.specs.Codes.{all_codes}
 use Rattle.lint_findings.specs.declared.codes.Code.{Code}
-use Rattle.lint_diagnostics.specs.Diagnosis.{IsDiagnosisWith}
-use Rattle.pest_lint.specs.Shows.{Asked, GainsWithEnd, IsReadable, status_of}
+use Rattle.pest_lint.specs.Shows.{AreShown, Asked, GainsWithEnd, IsReadable, status_of}
 use Rattle.pest_lint.specs.declared.arguments.Format.{Format}
 use Rattle.pest_lint.specs.declared.arguments.Format.TheVariants as format
 use Rattle.pest_lint.specs.declared.lint.Source.{Source}
@@ -23,8 +22,8 @@ results_of source diagnostics = map (result_data (string_bytes source.name) sour
 pub data Logs (asked : Asked) (source : Source) : List Data → ℕ → Type 0 where
   unread : (IsReadable source → ⊥) → Logs asked source [] 3
   read : (diagnostics : List Diagnostic) → IsReadable source
-      → IsDiagnosisWith asked.all asked.starts source.bytes.items diagnostics
-      → Logs asked source (results_of source diagnostics) (status_of asked.deny diagnostics)
+      → AreShown asked source.bytes.items diagnostics
+      → Logs asked source (results_of source diagnostics) (status_of asked diagnostics)
 
 -- the results that are logged of a file, and its status
 pub record Part : Type 0 where

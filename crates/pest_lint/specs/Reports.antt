@@ -19,6 +19,6 @@ abbrev pub unreadable_line : Source → List ℕ
 unreadable_line source = codes "cannot read "
     ++ (visible (string_bytes source.name) ++ (codes ": " ++ (reason source.why ++ codes "\n")))
 
--- a writer gained a line, or refused a write, or gained nothing, as where an allocation fails
+-- a writer gained a line, or refused a write, or gained nothing, as when an allocation fails
 abbrev pub Tells : List ℕ → Option (List ℕ) → Option (List ℕ) → Bool → Type 0
 Tells line old new refused = Appends old new line ⊎ ((refused ≡ true) ⊎ (new ≡ old))

@@ -1,8 +1,10 @@
 -- The bytes that the program writes of files, and its status.
-use Rattle.std.specs.Prelude.{◌≡◌, ℕ, List, [], ◌∷◌, ◌++◌, Bool, ◌||◌, None, Option, IsUtf8, if◌then◌else◌, max, string_bytes, ⊤}
+use Rattle.std.specs.Prelude.{◌≡◌, ℕ, List, [], ◌∷◌, ◌++◌, Bool, ◌||◌, None, Option, IsUtf8, bytes_eq, filter, if◌then◌else◌, max, not, string_bytes, ⊤}
 use Rattle.std.specs.List.{AllZip, list_any}
 use Rattle.std.specs.Io.KnownBytes.{Appends}
+use Rattle.lint_findings.specs.Codes.{code_name}
 use Rattle.lint_findings.specs.Reports.{is_error}
+use Rattle.lint_findings.specs.declared.codes.Code.{Code}
 use Rattle.lint_findings.specs.declared.diagnostic.Diagnostic.{Diagnostic}
 use Rattle.lint_output.specs.Prints.{IsExact}
 use Rattle.lint_output.specs.declared.Style.{Style}
@@ -14,17 +16,22 @@ use Rattle.pest_lint.specs.declared.arguments.Settings.{Settings}
 use Rattle.pest_lint.specs.declared.lint.Source.{Source}
 use Rattle.pest_meta.specs.Spelling.{HasAnswer}
 
--- the request: rules that are starts, all warnings or not, and whether warnings count
+-- the request: rules that are starts, all warnings or not, whether warnings count, codes whose warnings are
+-- not reported, and codes whose warnings count
 pub record Asked : Type 0 where
   pub starts : List Text
   pub all : Bool
   pub deny : Bool
+  pub allowed : List Code
+  pub denied : List Code
 
 abbrev pub asked_of : Settings → Asked
 asked_of settings = record {
   starts = texts_of settings.starts.now;
   all = settings.warn_all;
   deny = settings.deny_warnings;
+  allowed = settings.allowed.now;
+  denied = settings.denied.now;
 }
 
 -- the file could be read, and is text
@@ -35,12 +42,30 @@ IsReadable source = (source.why ≡ None) × IsUtf8 source.bytes.items
 abbrev pub IsClean : Source → Type 0
 IsClean source = (source.why ≡ None) × HasAnswer source.bytes.items
 
--- 1 where one is an error, or warnings are denied and there are some
-abbrev pub counts : Bool → Diagnostic → Bool
-counts deny d = deny || is_error d
+abbrev pub has_code : Diagnostic → Code → Bool
+has_code d c = bytes_eq (code_name c) (code_name d.code)
 
-abbrev pub status_of : Bool → List Diagnostic → ℕ
-status_of deny diagnostics = if list_any (counts deny) diagnostics then 1 else 0
+-- its code is one of these
+abbrev pub has_one_of : List Code → Diagnostic → Bool
+has_one_of codes d = list_any (has_code d) codes
+
+-- it is an error, or its code is not allowed
+abbrev pub is_shown : Asked → Diagnostic → Bool
+is_shown asked d = is_error d || not (has_one_of asked.allowed d)
+
+-- the diagnostics of a text, without those whose code is allowed
+pub record AreShown (asked : Asked) (text : List ℕ) (diagnostics : List Diagnostic) : Type 0 where
+  pub whole : List Diagnostic
+  pub diagnosis : IsDiagnosisWith asked.all asked.starts text whole
+  pub shown : diagnostics ≡ filter (is_shown asked) whole
+
+-- it is an error, or warnings or its code are denied
+abbrev pub counts : Asked → Diagnostic → Bool
+counts asked d = asked.deny || (is_error d || has_one_of asked.denied d)
+
+-- 1 if one of them counts
+abbrev pub status_of : Asked → List Diagnostic → ℕ
+status_of asked diagnostics = if list_any (counts asked) diagnostics then 1 else 0
 
 -- all of these, one after another
 abbrev pub joined : List (List ℕ) → List ℕ
@@ -55,9 +80,9 @@ ArePrinted style name text diagnostics bytes = (texts : List (List ℕ))
 -- a text's diagnostics are written, and the status is theirs
 pub record ShowsText (asked : Asked) (style : Style) (name text bytes : List ℕ) (status : ℕ) : Type 0 where
   pub diagnostics : List Diagnostic
-  pub diagnosis : IsDiagnosisWith asked.all asked.starts text diagnostics
+  pub diagnosis : AreShown asked text diagnostics
   pub printed : ArePrinted style name text diagnostics bytes
-  pub whole : status ≡ status_of asked.deny diagnostics
+  pub whole : status ≡ status_of asked diagnostics
 
 -- of a file: nothing is written of one that can't be read or is not UTF-8 (3)
 pub data Shows (asked : Asked) (style : Style) (source : Source) : List ℕ → ℕ → Type 0 where

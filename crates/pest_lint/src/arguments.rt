@@ -5,6 +5,7 @@ ghost use Rattle.clap.specs.Simple.{app_of};
 ghost use Rattle.program_support.specs.Arguments.{HasForm, arguments_of, flag, option, options, positionals};
 
 use clap::{Arg, ArgAction, ArgMatches, Command};
+use lint_diagnostics::Code;
 use lint_output::Style;
 use program_support::arguments::{add_argument, flag, new_command, option, positional};
 use std::alloc::{AllocError, Global};
@@ -26,6 +27,10 @@ pub struct Settings<'a> {
     pub deny_warnings: bool,
     /// All warnings are reported.
     pub warn_all: bool,
+    /// Warnings of these codes are not reported.
+    pub allowed: &'a [Code],
+    /// The status counts warnings of these codes, too.
+    pub denied: &'a [Code],
     /// Rules with which matching starts.
     pub starts: &'a [&'a str],
 }
@@ -39,9 +44,9 @@ const STATUSES: &str =
 pub fn command<'a>(alloc: Global) -> Result<Command<'a>, AllocError>
     ensures name { IfOk result (λ command. (app_of command).top.name ≡ codes "pest-lint") }
     ensures arguments { IfOk result (λ command. arguments_of command ≡ option (codes "format")
-        ∷ option (codes "color") ∷ flag (codes "deny-warnings") ∷ option (codes "warn") ∷ flag (codes "fix")
-        ∷ flag (codes "unsafe-fixes") ∷ flag (codes "diff") ∷ options (codes "start")
-        ∷ option (codes "explain") ∷ flag (codes "list") ∷ positionals (codes "FILE") ∷ []) }
+        ∷ option (codes "color") ∷ flag (codes "deny-warnings") ∷ option (codes "warn") ∷ options (codes "allow")
+        ∷ options (codes "deny") ∷ flag (codes "fix") ∷ flag (codes "unsafe-fixes") ∷ flag (codes "diff")
+        ∷ options (codes "start") ∷ option (codes "explain") ∷ flag (codes "list") ∷ positionals (codes "FILE") ∷ []) }
 {
     let about = "Reports what is wrong with pest grammars, and how to mend it";
     let command = new_command(alloc, "pest-lint", about, STATUSES)?;
@@ -49,6 +54,8 @@ pub fn command<'a>(alloc: Global) -> Result<Command<'a>, AllocError>
     let command = add_argument(command, colour_argument(alloc))?;
     let command = add_argument(command, deny_argument(alloc))?;
     let command = add_argument(command, warn_argument(alloc))?;
+    let command = add_argument(command, allow_code_argument(alloc))?;
+    let command = add_argument(command, deny_code_argument(alloc))?;
     let command = add_argument(command, fix_argument(alloc))?;
     let command = add_argument(command, unsafe_argument(alloc))?;
     let command = add_argument(command, diff_argument(alloc))?;
@@ -95,6 +102,25 @@ fn warn_argument<'a>(alloc: Global) -> Arg<'a>
     option(alloc, "warn", help)
         .value_name("all")
         .value_parser(["all"].as_slice())
+}
+
+/// `--allow`.
+fn allow_code_argument<'a>(alloc: Global) -> Arg<'a>
+    ensures { HasForm (options (codes "allow")) result }
+{
+    option(alloc, "allow", "Do not report warnings of this code")
+        .value_name("CODE")
+        .action(ArgAction::Append)
+}
+
+/// `--deny`.
+fn deny_code_argument<'a>(alloc: Global) -> Arg<'a>
+    ensures { HasForm (options (codes "deny")) result }
+{
+    let help = "Exit with status 1 on warnings of this code, too";
+    option(alloc, "deny", help)
+        .value_name("CODE")
+        .action(ArgAction::Append)
 }
 
 /// `--fix`.
@@ -156,11 +182,15 @@ fn file_argument<'a>(alloc: Global) -> Arg<'a>
         .num_args(1..)
 }
 
-/// The settings of a command line, where colours are asked for or not, and rules of these names are starts.
+/// Returns the settings of a command line. `has_colour` says whether text is in colours. `starts` names rules
+/// with which matching starts. Warnings of the codes `allowed` are not reported, and those of the codes
+/// `denied` count as errors.
 pub fn settings_of<'a>(
     matches: &ArgMatches<'_>,
     has_colour: bool,
     starts: &'a [&'a str],
+    allowed: &'a [Code],
+    denied: &'a [Code],
 ) -> Settings<'a>
     ensures denied { one_text (found_of matches.entry.now) (codes "deny-warnings") ≡ Some (codes "true")
         → result.deny_warnings ≡ true }
@@ -179,11 +209,15 @@ pub fn settings_of<'a>(
     ensures some { first_value (found_of matches.entry.now) (codes "warn") ≡ None
         → result.warn_all ≡ false }
     ensures starts { result.starts.now ≡ starts.entry.now }
+    ensures allowed_codes { result.allowed.now ≡ allowed.entry.now }
+    ensures denied_codes { result.denied.now ≡ denied.entry.now }
 {
     Settings {
         format: format_of(matches, has_colour),
         deny_warnings: matches.get_flag("deny-warnings"),
         warn_all: is_all(matches),
+        allowed,
+        denied,
         starts,
     }
 }

@@ -32,7 +32,7 @@ impl Counts {
         }
     }
 
-    /// The line `2 errors, 5 warnings`, without what there is none of; nothing where there is neither.
+    /// The line `2 errors, 5 warnings`, without what there is none of; nothing if there is neither.
     pub fn line(self, alloc: Global) -> Result<String, AllocError>
         ensures { IfOk result (λ line. string_bytes line ≡ spec.counts_line self) }
     {

@@ -1,5 +1,5 @@
 //! Diagnosing files.
-ghost use Rattle.std.specs.Prelude.{◌≡◌, ◌≢◌, ◌≤◌, ◌⊎◌, ◌↔◌, ℕ, List, All, IfOk, IfSome, IsSome, false, string_bytes, true};
+ghost use Rattle.std.specs.Prelude.{◌≡◌, ◌≢◌, ◌≤◌, ◌⊎◌, ◌↔◌, ℕ, List, All, IfOk, IfSome, IsSome, false, filter, string_bytes, true};
 ghost use Rattle.std.specs.Io.KnownBytes.{Appends};
 ghost use Rattle.std.specs.List.{list_any};
 ghost use Rattle.lint_findings.specs.Reports.{is_error};
@@ -8,12 +8,12 @@ ghost use Rattle.lint_diagnostics.specs.Diagnosis.{IsDiagnosisWith};
 ghost use Rattle.lint_warnings.specs.Lists.{texts_of};
 ghost use Rattle.pest_lint.specs.Reports.{Tells, memory_line, reason, unreadable_line};
 ghost use Rattle.pest_lint.specs.Shows as spec;
-ghost use Rattle.pest_lint.specs.Shows.{ArePrinted, Gains, GainsAll, GainsWithEnd, IsClean, IsEnd, IsReadable, ShowsText, asked_of};
+ghost use Rattle.pest_lint.specs.Shows.{ArePrinted, AreShown, Gains, GainsAll, GainsWithEnd, IsClean, IsEnd, IsReadable, ShowsText, asked_of};
 ghost use Rattle.pest_meta.specs.Spelling.{HasAnswer};
 
 use crate::arguments::{Format, Settings};
 use crate::counts::Counts;
-use lint_diagnostics::{Diagnostic, Options, Severity, diagnose, diagnose_all};
+use lint_diagnostics::{Code, Diagnostic, Options, Severity, diagnose, diagnose_all};
 use lint_output::{LineIndex, Origin, Style, print_diagnostic, to_visible};
 use program_support::output::Output;
 use std::alloc::{AllocError, Global};
@@ -39,9 +39,9 @@ pub struct Source {
 }
 
 /// Diagnoses each file, and prints what is found to `out`, in order. The status is the highest of theirs: 1
-/// where there are errors, or warnings that are denied. Text ends with a line that counts them.
+/// if there are errors, or warnings that are denied. Text ends with a line that counts them.
 ///
-/// A file that can't be read is reported on `err`, and the others are diagnosed all the same (3). Where an
+/// A file that can't be read is reported on `err`, and the others are diagnosed all the same (3). If an
 /// allocation fails (2) or `out` refuses a write (4), the run ends.
 pub fn print_sources<W: Write, E: Write>(
     alloc: Global,
@@ -230,11 +230,30 @@ fn print_text<W: Write>(
         return status;
     }
     counts.add(&diagnostics);
-    status_of(&diagnostics, settings.deny_warnings)
+    status_of(&diagnostics, settings)
 }
 
-/// The diagnostics of a text that are asked for.
+/// Returns the diagnostics of a text that are asked for. Warnings of allowed codes are not among them.
+///
+/// # Errors
+/// `AllocError` if an allocation fails.
 pub fn diagnose_text(
+    alloc: Global,
+    text: &str,
+    settings: Settings<'_>,
+) -> Result<Vec<Diagnostic>, AllocError>
+    ensures diagnosis { IfOk result (λ diagnostics.
+        AreShown (asked_of settings.entry) text.now diagnostics.items) }
+    ensures accepted { IfOk result (λ diagnostics.
+        list_any is_error diagnostics.items ≡ false → HasAnswer text.now) }
+{
+    let mut diagnostics = diagnose_asked(alloc, text, settings)?;
+    retain_shown(&mut diagnostics, settings);
+    Ok(diagnostics)
+}
+
+/// Returns the diagnostics of a text: with `--warn all` also those that are reported on request.
+fn diagnose_asked(
     alloc: Global,
     text: &str,
     settings: Settings<'_>,
@@ -254,28 +273,64 @@ pub fn diagnose_text(
     }
 }
 
-/// The status of diagnostics: 1 where one is an error, or where warnings are denied and there are some.
-pub fn status_of(diagnostics: &[Diagnostic], deny_warnings: bool) -> u8
-    ensures { result ≡ spec.status_of deny_warnings diagnostics.now }
+/// Removes the warnings whose codes are allowed.
+fn retain_shown(diagnostics: &mut Vec<Diagnostic>, settings: Settings<'_>)
+    ensures { diagnostics.new.items
+        ≡ filter (spec.is_shown (asked_of settings.entry)) diagnostics.old.items }
 {
-    let is_found = has_counted(diagnostics, deny_warnings);
+    diagnostics.retain(|diagnostic| is_shown(diagnostic, settings));
+}
+
+/// Whether a diagnostic is an error, or a warning whose code is not allowed.
+fn is_shown(diagnostic: &Diagnostic, settings: Settings<'_>) -> bool
+    ensures { result ≡ spec.is_shown (asked_of settings) diagnostic.now }
+{
+    is_error(diagnostic) || !has_one_of(settings.allowed, diagnostic)
+}
+
+/// Whether a diagnostic is an error.
+fn is_error(diagnostic: &Diagnostic) -> bool
+    ensures { result ≡ is_error diagnostic.now }
+{
+    matches!(diagnostic.severity, Severity::Error)
+}
+
+/// Whether the code of a diagnostic is one of some codes.
+fn has_one_of(codes: &[Code], diagnostic: &Diagnostic) -> bool
+    ensures { result ≡ spec.has_one_of codes.now diagnostic.now }
+{
+    codes.iter().any(|code| has_code(diagnostic, *code))
+}
+
+/// Whether a diagnostic has this code.
+fn has_code(diagnostic: &Diagnostic, code: Code) -> bool
+    ensures { result ≡ spec.has_code diagnostic.now code }
+{
+    code.name() == diagnostic.code.name()
+}
+
+/// Returns the status of diagnostics: 1 if one is an error or a denied warning, otherwise 0.
+pub fn status_of(diagnostics: &[Diagnostic], settings: Settings<'_>) -> u8
+    ensures { result ≡ spec.status_of (asked_of settings) diagnostics.now }
+{
+    let is_found = has_counted(diagnostics, settings);
     if is_found { FOUND } else { CLEAN }
 }
 
 /// Whether one of these counts.
-fn has_counted(diagnostics: &[Diagnostic], deny_warnings: bool) -> bool
-    ensures { result ≡ list_any (spec.counts deny_warnings) diagnostics.now }
+fn has_counted(diagnostics: &[Diagnostic], settings: Settings<'_>) -> bool
+    ensures { result ≡ list_any (spec.counts (asked_of settings)) diagnostics.now }
 {
     diagnostics
         .iter()
-        .any(|diagnostic| is_counted(diagnostic, deny_warnings))
+        .any(|diagnostic| is_counted(diagnostic, settings))
 }
 
-/// Whether a diagnostic is an error, or warnings are denied.
-fn is_counted(diagnostic: &Diagnostic, deny_warnings: bool) -> bool
-    ensures { result ≡ spec.counts deny_warnings diagnostic.now }
+/// Whether a diagnostic is an error or a denied warning.
+fn is_counted(diagnostic: &Diagnostic, settings: Settings<'_>) -> bool
+    ensures { result ≡ spec.counts (asked_of settings) diagnostic.now }
 {
-    deny_warnings || matches!(diagnostic.severity, Severity::Error)
+    settings.deny_warnings || is_error(diagnostic) || has_one_of(settings.denied, diagnostic)
 }
 
 /// Prints diagnostics, in order. Answers 0, or why it ended before.

@@ -22,7 +22,7 @@ use std::io::Write;
 
 /// Diagnoses each file, and prints one log of all that is found. The status is the highest of theirs.
 ///
-/// A file that can't be read is reported on `err`, and is not in the log (3). Where an allocation fails (2),
+/// A file that can't be read is reported on `err`, and is not in the log (3). If an allocation fails (2),
 /// no log is printed.
 pub fn log_files<W: Write, E: Write>(
     alloc: Global,
@@ -72,7 +72,7 @@ fn log_file<E: Write>(
         return MEMORY;
     };
     match add_results(alloc, source.name.as_str(), text, &diagnostics, results) {
-        Ok(()) => status_of(&diagnostics, settings.deny_warnings),
+        Ok(()) => status_of(&diagnostics, settings),
         Err(_) => MEMORY,
     }
 }

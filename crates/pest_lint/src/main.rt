@@ -16,6 +16,7 @@ mod counts;
 mod diff;
 mod explain;
 mod fixes;
+mod levels;
 mod lint;
 mod log;
 mod sources;
@@ -27,6 +28,7 @@ use colours::is_coloured;
 use explain::{print_list, print_page};
 use fixes::{FixOptions, fix_files, show_fixes};
 use front_names::Builtin;
+use levels::{codes_named, codes_or_report};
 use lint::{CLEAN, MEMORY, Source, UNREADABLE, print_sources};
 use log::log_files;
 use program_support::output::Output;
@@ -84,7 +86,7 @@ fn list_codes(rt: &HostRuntime) -> u8 {
     print_list(rt.alloc(), &mut Output::new(rt.stdout()))
 }
 
-/// The names of the rules that are starts. Where all warnings are asked for, or `--start` names some, one
+/// The names of the rules that are starts. If all warnings are asked for, or `--start` names some, one
 /// that no rule has is among them, so that the first rule is not taken for a start.
 fn starts_of<'a>(alloc: Global, matches: &'a ArgMatches<'_>) -> Result<Vec<&'a str>, AllocError>
     ensures unnamed { first_value (found_of matches.entry.now) (codes "warn") ≡ None
@@ -116,8 +118,26 @@ fn run(rt: &HostRuntime, matches: &ArgMatches<'_>) -> Result<u8, AllocError> {
         let _ = eprintln!(rt; "no grammar given; pest-lint --help shows the usage");
         return Ok(UNREADABLE);
     }
+    lint_named(rt, matches, names)
+}
+
+/// Fixes and diagnoses the files of these names, as the command line asks, and returns the status.
+fn lint_named(
+    rt: &HostRuntime,
+    matches: &ArgMatches<'_>,
+    names: &[&str],
+) -> Result<u8, AllocError> {
     let starts = starts_of(rt.alloc(), matches)?;
-    let settings = settings_of(matches, has_colour(rt, matches.get_str("color")), &starts);
+    let allowed = codes_named(rt.alloc(), matches, "allow", false)?;
+    let Some(allowed) = codes_or_report(rt, allowed)? else {
+        return Ok(UNREADABLE);
+    };
+    let denied = codes_named(rt.alloc(), matches, "deny", true)?;
+    let Some(denied) = codes_or_report(rt, denied)? else {
+        return Ok(UNREADABLE);
+    };
+    let has_colour = has_colour(rt, matches.get_str("color"));
+    let settings = settings_of(matches, has_colour, &starts, &allowed, &denied);
     let mut sources = read_sources(rt, names)?;
     if let Some(name) = unknown_start(rt.alloc(), &sources, &starts)? {
         return report_start(rt, &sources, name);

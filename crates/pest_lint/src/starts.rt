@@ -26,7 +26,7 @@ pub fn named_starts<'a>(
     Ok(starts)
 }
 
-/// The first of some names that is none of a rule in these files, nor `SOI`; none where a file can't be read.
+/// The first of some names that is none of a rule in these files, nor `SOI`; none if a file can't be read.
 pub(crate) fn unknown_start<'a>(
     alloc: Global,
     sources: &[Source],

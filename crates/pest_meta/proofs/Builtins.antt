@@ -46,7 +46,7 @@ builtin_if among true e h = refl
 builtin_if true false e h = cc
 builtin_if false false e h = cc
 
--- where each call is of one of some names or of a builtin, the first calls of the others are of builtins
+-- if each call is of one of some names or of a builtin, the first calls of the others are of builtins
 module _ (names : List (List ℕ)) where
   abbrev is_unknown : Span → Bool
   is_unknown call = not (is_one_of names (written call)) && not (is_builtin (written call))

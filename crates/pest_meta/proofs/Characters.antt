@@ -35,7 +35,7 @@ excluded good (x ∷ xs) c h k = go (nat_eq c x) refl (excluded good xs c (secon
 pub solid_when : (good : ℕ → Bool) (c : ℕ) → any_good good (32 ∷ 9 ∷ 10 ∷ 13 ∷ []) ≡ false → any_good good (47 ∷ []) ≡ false → good c ≡ true → is_solid c ≡ true
 solid_when good c h i k = let a = excluded good (32 ∷ 9 ∷ 10 ∷ 13 ∷ []) c h k in let b = excluded good (47 ∷ []) c i k in rw (a, b) refl
 
--- what a test accepts, another refuses, where these characters are all that the first accepts
+-- what a test accepts, another refuses, if these characters are all that the first accepts
 pub refused : (bad : ℕ → Bool) (xs : List ℕ) (c : ℕ) → any_good bad xs ≡ false → is_among xs c ≡ true → bad c ≡ false
 refused bad xs c h k = go (bad c) refl
   where

@@ -1,4 +1,4 @@
--- The least set of names that holds of a name where a test of its rule's body, by the set, does.
+-- The least set of names that holds of a name if a test of its rule's body, by the set, does.
 use Rattle.std.proofs.Common.{◌≡◌, refl, sym, ap, ◌∙◌, ℕ, zero, suc, ◌<◌, ◌≤◌, [], ◌∷◌, Bool, true, false, ◌||◌, if◌then◌else◌, ◌⊎◌, inl, inr, Option, Some, None, bytes_eq, arith}
 use Rattle.std.specs.Prelude.{⊤}
 use Rattle.std.proofs.lemmas.Bool.{or_cases, or_left, or_right}
@@ -61,7 +61,7 @@ module _ (g : Grammar) (test : (Text → Bool) → Expression → Bool) where
         go None f i true j e = let same = (bytes_eq-Decides x.name n).0 j in sym (ap p same) ∙ s.0 (ap q same ∙ h)
         go None f i false j e = cc
 
-  -- a name is in the set where the test of its body, by the set, holds
+  -- a name is in the set if the test of its body, by the set, holds
   pub record IsClosed (p : Text → Bool) : Type 0 where
     pub closed : (n : Text) (r : Rule) → rule_of g n ≡ Some r → test p r.body ≡ true → p n ≡ true
 

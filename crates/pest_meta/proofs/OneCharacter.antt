@@ -49,7 +49,7 @@ abbrev TakesOne : (ℕ → Bool) → State → State → Type 0
 TakesOne set s u = (starts_in set s.rest ≡ true) × (u ≡ moved 1 s)
 
 module _ (called : Text → State → State → Type 0) where
-  -- what an expression takes, where a name takes what is called
+  -- what an expression takes, if a name takes what is called
   abbrev Takes : Expression → State → State → Type 0
   Takes (Str t) s u = (begins nat_eq t s.rest ≡ true) × (u ≡ moved (length t) s)
   Takes (Range a b) s u = TakesOne (range_set a b) s u

@@ -94,7 +94,7 @@ unvalidated text (error_is.Names findings) h = h
 unvalidated text (error_is.Flaw flaw) h = h
 unvalidated text (error_is.Rules findings) h = absurd h
 
--- 2. where nothing is found
+-- 2. if nothing is found
 reported_none : (rules : List SpannedRule) (found : AreFindings rules []) → AreReported rules found.endless []
 reported_none rules found = record { findings = []; complete = found.complete; told = tt }
 

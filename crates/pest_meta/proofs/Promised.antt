@@ -125,7 +125,7 @@ answer_ends g answer o plain =
     let finished = wrapped_listing_finishes o.reached answer o.listing in
     sound_ends answer (finished_sound o.reached answer finished o.grammar) (finished_plain o.reached answer finished (plain_along g o.reached o.chain plain))
 
--- where wrappers suffice in the spelled rules they suffice in those that are answered
+-- if wrappers suffice in the spelled rules they suffice in those that are answered
 pub answer_suffices : (g answer : Grammar) → HasOutcomesOf g answer → WrappersSuffice g → WrappersSuffice answer
 answer_suffices g answer o w =
     finished_suffice o.reached answer (wrapped_listing_finishes o.reached answer o.listing) (steps_suffice g o.reached o.chain w)

@@ -55,7 +55,7 @@ from_once rules xs ys limit turns recursive nullable a b =
     all_once (ReportedFrom limit turns recursive (rules_without_spans rules) nullable)
     (λ x ts us h k. reported_once limit turns _ nullable x _ ts us h k) (map (λ r. r.body) rules) xs ys a b
 
--- where the same names are taken for recursive
+-- if the same names are taken for recursive
 read_once : (rules : List SpannedRule) (xs ys : List Span) (a : AreRead rules xs) (b : AreRead rules ys) → a.recursive ≡ b.recursive → xs ≡ ys
 read_once rules xs ys a b recursive =
     let enough : most_stacks < suc most_stacks = omega arith in
@@ -71,7 +71,7 @@ pub read_alike : (rules : List SpannedRule) (xs ys : List Span) → AreRead rule
 read_alike rules xs ys a b =
     read_once rules xs ys a b (fun_ext (λ n. same_test (a.recursive n) (b.recursive n) _ (a.reaches_itself n) (b.reaches_itself n)))
 
--- where one list of reports is empty, so is another
+-- if one list of reports is empty, so is another
 pub plain_empty : (rules : List SpannedRule) (xs ys : List Span) → AreFound rules xs → AreFound rules ys → xs ≡ [] → ys ≡ []
 plain_empty rules xs ys a b none = go ys refl
   where
@@ -82,7 +82,7 @@ plain_empty rules xs ys a b none = go ys refl
         let same = read_alike rules xs ys (a.plain calm) (b.plain calm) in
         cc
 
--- where nothing is reported of rules, nothing else is
+-- if nothing is reported of rules, nothing else is
 pub reports_agree : (rules : List SpannedRule) (spans : List Span) → AreReports rules [] → AreReports rules spans → spans ≡ []
 reports_agree rules spans a b =
     let none : a.reports ≡ [] = nil_from_length a.reports (sym (length_permutation a.reports [] a.sorted.same)) in

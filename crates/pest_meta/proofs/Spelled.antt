@@ -49,7 +49,7 @@ failure_is_none h = cc
 pub trees_once : (text : List ℕ) (us vs : Trees) → HasTrees text us → HasTrees text vs → us ≡ vs
 trees_once text us vs h k = same_trees (same meta_grammar empty_classes (h empty_classes).1 (k empty_classes).1)
 
--- where the text fails, it has none
+-- if the text fails, it has none
 pub fails_so : (text : List ℕ) (place : ℕ) (us : Trees) → FailsAt rule_is.grammar_rules text place → HasTrees text us → ⊥
 fails_so text place us f h = failure_is_none (same meta_grammar empty_classes (f empty_classes).0 (h empty_classes).1)
 
@@ -96,7 +96,7 @@ pub not_both : (text : List ℕ) → HasAnswer text → HasRefusal text → ⊥
 not_both text (builtins, answer, a) (errors, inl n) = trees_or_fails text a.trees errors a.of_text n
 not_both text (builtins, answer, a) (errors, inr r) = answered_or_refused text builtins answer errors a r
 
--- where there is an answer, the stack pass reports nothing
+-- if there is an answer, the stack pass reports nothing
 pub answered_without_reports : (text : List ℕ) (builtins : List (Bor (List ℕ))) (answer : Grammar) → IsAnsweredBy text builtins answer → OfRead text (λ rules. AreReports rules [])
 answered_without_reports text builtins answer a trees rules h d =
     let same = trees_once text trees a.trees h a.of_text in
@@ -137,7 +137,7 @@ misnamed text forest (fault_is.Grammar errors) t h k =
     let tell = subst (λ cs. AreErrorsFor cs errors.items) same k.1 in
     inr (record { trees = named (forest_trees forest); of_text = of_text; why = inl (record { some = some; tell = tell }) })
 
--- what is refused for its rules, where there is nothing to say of its names
+-- what is refused for its rules, if there is nothing to say of its names
 pub rejected : (text : List ℕ) (forest : Forest) (fault : code.Fault) → forest_text forest ≡ text → IsOfAGrammar forest → forest_complaints forest ≡ []
     → AreRejected (forest_text forest) (named (forest_trees forest)) fault → IsRefusal text fault
 rejected text forest (fault_is.Memory e) t h n k = tt
@@ -181,7 +181,7 @@ pub spells_accepted : (text : List ℕ) (builtins : List (Bor (List ℕ))) (rule
 spells_accepted text builtins rules s =
     record { trees = s.trees; of_text = s.of_text; well_named = s.well_named; accepted = s.accepted }
 
--- accepted rules with counted repetitions written out, where there are some
+-- accepted rules with counted repetitions written out, if there are some
 pub written : {E : Type 0} (text : List ℕ) (spelled : Grammar) (answer : Result (Vec OptimizedRule Global) E)
     → SpellsAccepted text spelled → IfOk answer (λ rules. AreWrittenOut spelled (optimized_rules_of rules.items))
     → IfOk answer (λ rules. SameOutcomes spelled (optimized_rules_of rules.items))
@@ -189,7 +189,7 @@ pub written : {E : Type 0} (text : List ℕ) (spelled : Grammar) (answer : Resul
 written text spelled (Ok rules) a w o = record { spelled = spelled; accepted = a; written_out = w; outcomes = o }
 written text spelled (Err e) a w o = o
 
--- the optimized rules of rules with spans, where there are some
+-- the optimized rules of rules with spans, if there are some
 pub optimized_spans : {E : Type 0} (rules : List SpannedRule) (plain : Grammar) (answer : Result (Vec OptimizedRule Global) E)
     → plain ≡ rules_without_spans rules → IfOk answer (λ answer. IsOptimized plain (optimized_rules_of answer.items))
     → IfOk answer (λ answer. IsOptimized (rules_without_spans rules) (optimized_rules_of answer.items))

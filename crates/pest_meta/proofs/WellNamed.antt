@@ -101,7 +101,7 @@ no_keyword (place ∷ places) (r ∷ rules) e u h =
     let here : is_one_of keywords (chars (written place)) ≡ false = not_among keywords (written place) keywords_are_ascii u.0 one.0 in
     (subst (λ n. is_one_of keywords n ≡ false) (sym (heads e)) here, no_keyword places rules (tails e) u.1 one.1)
 
--- where no later place has a name that was met, no place has one
+-- if no later place has a name that was met, no place has one
 module _ where
   not_met : (before : List (List ℕ)) (place : Span) (places : List Span) → later_places before (place ∷ places) ≡ []
       → (is_one_of before (written place) ≡ false) × (later_places (written place ∷ before) places ≡ [])

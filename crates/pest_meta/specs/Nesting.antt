@@ -2,12 +2,12 @@
 use Rattle.std.specs.Prelude.{map}
 use Rattle.base_language.specs.Language.Expression.{Expression, Rule, Grammar, PosPred, NegPred, Seq, Choice, Opt, Rep, RepOnce, RepExact, RepMin, RepMax, RepMinMax, Push, RestoreOnErr, NodeTag}
 
--- one expression after another, where the first is nested to the right already
+-- one expression after another, if the first is nested to the right already
 abbrev pub sequence_of : Expression → Expression → Expression
 sequence_of (Seq a b) c = Seq a (sequence_of b c)
 sequence_of a c = Seq a c
 
--- one choice after another, where the first is nested to the right already
+-- one choice after another, if the first is nested to the right already
 abbrev pub choice_of : Expression → Expression → Expression
 choice_of (Choice a b) c = Choice a (choice_of b c)
 choice_of a c = Choice a c

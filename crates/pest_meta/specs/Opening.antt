@@ -54,7 +54,7 @@ pub record HasRuleFindings (text : List ℕ) (findings : List RuleFinding) : Typ
   pub some : findings ≢ []
   pub all : AreFindings give.read (findings_of findings)
 
--- the reason why a text is not opened, where its rules may be wrong: an allocation failure, or that for which
+-- the reason why a text is not opened, if its rules may be wrong: an allocation failure, or that for which
 -- it is refused
 abbrev pub IsUnvalidatedError : List ℕ → OpenError → Type 0
 IsUnvalidatedError text (error_is.Memory e) = ⊤
@@ -63,7 +63,7 @@ IsUnvalidatedError text (error_is.Names findings) = HasNameFindings text finding
 IsUnvalidatedError text (error_is.Flaw flaw) = HasFlaw text flaw
 IsUnvalidatedError text (error_is.Rules findings) = ⊥
 
--- the same where nothing may be found in its rules
+-- the same if nothing may be found in its rules
 abbrev pub IsOpenError : List ℕ → OpenError → Type 0
 IsOpenError text (error_is.Rules findings) = HasRuleFindings text findings.items
 IsOpenError text error = IsUnvalidatedError text error

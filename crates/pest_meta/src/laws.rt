@@ -23,7 +23,7 @@ pub fn spells_one_grammar()
 {}
 
 /// Proves that a text has one list of trees at most. If it has one, it is not refused as no grammar; and if
-/// these have a flaw, they give no rules. So where there is an answer for a text, there is no reason to
+/// these have a flaw, they give no rules. So if there is an answer for a text, there is no reason to
 /// refuse it.
 pub fn one_kind_of_answer()
     ensures trees { HasOneListOfTrees }

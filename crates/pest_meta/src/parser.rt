@@ -59,7 +59,7 @@ pub fn consume_forest(alloc: Global, forest: &Forest<'_>) -> Result<Vec<ast::Rul
     Ok(erase_spans(alloc, rules)?)
 }
 
-/// Returns the rules that the trees of a grammar's text spell, in order, with the spans of their nodes, where
+/// Returns the rules that the trees of a grammar's text spell, in order, with the spans of their nodes, if
 /// nothing is found in them. Errors are those of `consume_rules`.
 fn consume_valid_rules<'i>(alloc: Global, forest: &Forest<'i>) -> Result<Vec<ParserRule<'i>>, Fault>
     requires { IsOfAGrammar forest.now }

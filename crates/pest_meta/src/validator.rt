@@ -26,14 +26,14 @@ use std::alloc::{AllocError, Global};
 /// Returns the errors in rules, ordered by the start of their spans and then by the end, in bytes (at one
 /// span repetitions, then those that never end because of the stack, then choices, then skipped rules, then
 /// left recursion, then tags):
-/// - `expression inside repetition cannot fail and will repeat infinitely` or, where that is not so,
+/// - `expression inside repetition cannot fail and will repeat infinitely` or, if that is not so,
 ///   `expression inside repetition is non-progressing and will repeat infinitely`, at a repetition `e*`,
 ///   `e+` or `e{n,}` whose body cannot fail, or may take nothing;
 /// - the second of these messages at one that certainly never ends because of the stack
 ///   (`validate_stack_repetition`);
 /// - `expression cannot fail; following choices cannot be reached`, at an alternative that cannot fail and
 ///   has others after it;
-/// - `WHITESPACE cannot fail and will repeat infinitely` or, where that is not so,
+/// - `WHITESPACE cannot fail and will repeat infinitely` or, if that is not so,
 ///   `WHITESPACE is non-progressing and will repeat infinitely`, at the body of the rule `WHITESPACE`; and so
 ///   for `COMMENT`;
 /// - `rule a is left-recursive (a -> b -> a); pest::pratt_parser might be useful in this case`, at the call

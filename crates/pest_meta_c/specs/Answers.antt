@@ -63,7 +63,7 @@ pub record AreNames (text json : List ℕ) : Type 0 where
   pub uses : AreWrittenAt (first_calls (definitions text trees) (calls text trees)) names
   pub written : json ≡ compact_text (names_data names)
 
--- the bytes are the errors of a name as a keyword of Rust: one, at the whole of it, where it is one, and else
+-- the bytes are the errors of a name as a keyword of Rust: one, at the whole of it, if it is one, and else
 -- none
 pub record AreKeywordErrors (name json : List ℕ) : Type 0 where
   pub errors : List (Error Rule)

@@ -18,7 +18,7 @@ abbrev pub ArePrinted : List Diagnostic → List ℕ → Type 0
 ArePrinted diagnostics bytes = (lines : List (List ℕ))
     × AllZip (IsPrinted style.Json) diagnostics lines × (bytes ≡ joined lines)
 
--- the bytes print the diagnostics of a grammar's text, which is accepted where none is an error
+-- the bytes print the diagnostics of a grammar's text, which is accepted if none is an error
 pub record AreDiagnostics (text bytes : List ℕ) : Type 0 where
   pub diagnostics : List Diagnostic
   pub diagnosis : IsDiagnosis [] text diagnostics

@@ -49,7 +49,7 @@ pub record HandsOverNumbers (Answer : List ℕ → Type 0) (Refusal : Type 0) (o
   pub no_text : status ≡ 3 → WritesNothing old new needed
   pub no_room : status ≡ 4 → LacksRoom Answer old new needed
 
--- items with that status are put into the buffer where they fit, and `needed` is their count
+-- items with that status are put into the buffer if they fit, and `needed` is their count
 pub record IsPut {A : Type 0} (wanted : ℕ) (items old new : List A) (needed status : ℕ) : Type 0 where
   pub told : needed ≡ length items
   pub put : length items ≤ length old → (status ≡ wanted) × (new ≡ items ++ drop (length items) old)

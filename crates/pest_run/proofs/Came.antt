@@ -56,7 +56,7 @@ use Rattle.pest_run.specs.declared.outcomes.Outcome.TheVariants as is
 pub limit_of : (g : Grammar) (rule text : List ℕ) (m n : ℕ) (why : Stop) → m ≡ n → IsStopped g (chars rule) (start_of text) is_in_property m why → IsStopped g (chars rule) (start_of text) is_in_property n why
 limit_of g rule text m n why e h = subst (λ k. IsStopped g (chars rule) (start_of text) is_in_property k why) e h
 
--- why a run gives no match, where it is not out of steps, does not depend on how many were allowed
+-- why a run gives no match, if it is not out of steps, does not depend on how many were allowed
 pub any_steps : (g : Grammar) (rule text : List ℕ) (few steps : ℕ) (why : BlockStop) → why ≢ block.Stopped stop.OutOfSteps → IsRefusedBy g rule text few why → IsRefusedBy g rule text steps why
 any_steps g rule text few steps (block.NoMatch place) other h = h
 any_steps g rule text few steps (block.Stopped stop.Memory) other h = h
@@ -112,12 +112,12 @@ keeps_some m ms (n ∷ ns) e =
       | false ↦ keeps_some m (ms ++ n ∷ []) ns
     ] e
 
--- where each name once is none, there is none
+-- if each name once is none, there is none
 none_once : (ns : List Text) → [] ≡ each_once ns → ns ≡ []
 none_once [] e = refl
 none_once (n ∷ ns) e = absurd (keeps_some n [] ns (sym e))
 
--- where no name is expected, and those of pest's error are told
+-- if no name is expected, and those of pest's error are told
 of_error : (g : Grammar) (rule text : List ℕ) (place : ℕ) (it : NamedAttempts) {o : Result} (d : Has g (chars rule) text is_in_property o)
     → place ≡ furthest d → AreExpectedIn g rule text place [] → AreAttemptsIn g rule text it → AreOfError d it.place (name_texts it.positives.items) (name_texts it.negatives.items)
 of_error g rule text place it {o = o} d e a x =
@@ -205,7 +205,7 @@ same_note format_is.Lines text end_ place ns ms h = refl
 
 -- what is told of a match is told of what the rule gives
 module _ (g : Grammar) (rule name text : List ℕ) (format : Format) (limit : Limits) (it : Preorder) (found : HasPreorder g (chars rule) (start_of text) is_in_property it) where
-  -- where the note on it has these names
+  -- if the note on it has these names
   noted : (names : List Text) (note : Option (List ℕ)) → names ≡ each_once (expected found.found)
       → note ≡ end_note format text it.end it.furthest names → IsNoted g rule text format limit.names note
   noted names note a t =
@@ -217,7 +217,7 @@ module _ (g : Grammar) (rule name text : List ℕ) (format : Format) (limit : Li
         tells = inl (t ∙ (ap₂ (λ e p. P e p names) found.ends found.place ∙ ap (P found.state.position (furthest found.found)) a));
       }
 
-  -- where the names are known if the note tells them
+  -- if the names are known if the note tells them
   notes : (names : List (Bor (List ℕ))) (note : Option (List ℕ)) → (tells_expected format text it.end it.furthest ≡ true → AreExpectedIn g rule text it.furthest names)
       → note ≡ end_note format text it.end it.furthest (name_texts names) → IsNoted g rule text format limit.names note
   notes names note a t =
@@ -244,7 +244,7 @@ module _ (g : Grammar) (rule name text : List ℕ) (format : Format) (limit : Li
   shows names is.Bound t a = absurd t
   shows names is.Memory t a = tt
 
-  -- where they were not found
+  -- if they were not found
   pub shows_unnamed : (o : Outcome) → IsUnnamedMatchReport text format it.end it.furthest limit.names found.trees o
       → tells_expected format text it.end it.furthest ≡ true → TakesTooManySteps g rule text limit.names → IsOutcome g rule name text format limit o
   shows_unnamed (is.Shown lines note) t asked long =

@@ -48,7 +48,7 @@ matched form_is.Written grammar rule text format rules lines a i =
     }
 matched form_is.Optimized grammar rule text format rules lines a i = record { rules = rules; matched = a; shows = i }
 
--- where the status is 0, trees were printed
+-- if the status is 0, trees were printed
 pub prints : {X E : Type 0} (o : Outcome) (name grammar rule text : List ℕ) (format : Format) (form : RuleForm) (rules : Grammar) (limit : Limits) (told : Result X E) (same : Type 0) (status : ℕ)
     (old_out new_out old new : Option (List ℕ)) → AreRun form grammar rules → IsOutcome rules rule name text format limit o
     → EndsAs o same status told old_out new_out old new → status ≡ 0 → PrintsTrees form grammar rule text format old_out new_out
@@ -81,7 +81,7 @@ notes is.UnknownName name grammar rule text format form rules limit told same st
 notes is.Bound name grammar rule text format form rules limit told same status old_out new_out old new a i e zero = absurd (apart status 0 5 zero e.0 (omega arith))
 notes is.Memory name grammar rule text format form rules limit told same status old_out new_out old new a i e zero = absurd (apart status 0 2 zero e (omega arith))
 
--- where it is 1, a reason was told
+-- if it is 1, a reason was told
 pub tells : {X E : Type 0} (o : Outcome) (name grammar rule text : List ℕ) (format : Format) (form : RuleForm) (rules : Grammar) (limit : Limits) (told : Result X E) (same : Type 0) (status : ℕ)
     (old_out new_out old new : Option (List ℕ)) → AreRun form grammar rules → IsOutcome rules rule name text format limit o
     → EndsAs o same status told old_out new_out old new → status ≡ 1 → ReportsReason form grammar rule name text limit told old new
@@ -100,7 +100,7 @@ tells is.UnknownName name grammar rule text format form rules limit told same st
 tells is.Bound name grammar rule text format form rules limit told same status old_out new_out old new a i e one = absurd (apart status 1 5 one e.0 (omega arith))
 tells is.Memory name grammar rule text format form rules limit told same status old_out new_out old new a i e one = absurd (apart status 1 2 one e (omega arith))
 
--- where it is 5, why the matcher was stopped was told
+-- if it is 5, why the matcher was stopped was told
 pub stops : {X E : Type 0} (o : Outcome) (name grammar rule text : List ℕ) (format : Format) (form : RuleForm) (rules : Grammar) (limit : Limits) (told : Result X E) (same : Type 0) (status : ℕ)
     (old_out new_out old new : Option (List ℕ)) → AreRun form grammar rules → IsOutcome rules rule name text format limit o
     → EndsAs o same status told old_out new_out old new → status ≡ 5 → ReportsStop form grammar rule text limit told old new

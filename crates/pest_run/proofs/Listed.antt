@@ -14,7 +14,7 @@ use Rattle.pest_run.specs.declared.outcomes.Outcome.TheVariants as is
 use Rattle.pest_run.proofs.Ended.{apart, neither}
 
 module _ {X E : Type 0} (grammar : List ℕ) (rules : Grammar) (told : Result X E) (same : Type 0) (status : ℕ) (old_out new_out old new : Option (List ℕ)) where
-  -- where the status is 0, the names were printed
+  -- if the status is 0, the names were printed
   pub lists : (o : Outcome) → SpellsAccepted grammar rules → IsListOutcome rules o → EndsAs o same status told old_out new_out old new → status ≡ 0 → ListsRules grammar old_out new_out
   lists (is.Shown lines _) a i e zero =
       let P : List ℕ → Type 0 = λ t. Appends old_out new_out t in

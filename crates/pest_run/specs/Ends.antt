@@ -9,8 +9,8 @@ use Rattle.pest_run.specs.declared.outcomes.Outcome.TheVariants as is
 abbrev pub IsStatus : ℕ → Type 0
 IsStatus status = (status ≡ 0) ⊎ (status ≡ 1) ⊎ (status ≡ 2) ⊎ (status ≡ 4) ⊎ (status ≡ 5)
 
--- 0 where the lines are written and the note, if there is one, 1 where the reason is reported, 2 after an
--- allocation failure, and 5 where the run is stopped and the reason reported
+-- 0 if the lines are written and the note, if there is one, 1 if the reason is reported, 2 after an
+-- allocation failure, and 5 if the run is stopped and the reason reported
 abbrev pub EndsAs : {X E : Type 0} → Outcome → Type 0 → ℕ → Result X E
     → Option (List ℕ) → Option (List ℕ) → Option (List ℕ) → Option (List ℕ) → Type 0
 EndsAs (is.Shown lines note) same status told old_out new_out old new =

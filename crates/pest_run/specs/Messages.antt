@@ -31,7 +31,7 @@ limit_text steps =
 abbrev pub steps_text : ℕ → List ℕ
 steps_text steps = codes "the match was stopped after " ++ limit_text steps
 
--- so too, where a rule uses the stack
+-- so too, if a rule uses the stack
 abbrev pub stack_text : ℕ → List ℕ → List ℕ
 stack_text steps user =
     steps_text steps ++ codes " (rule " ++ escaped_bytes user ++ codes " uses the stack)"
@@ -68,7 +68,7 @@ abbrev pub expected_too : List Text → List ℕ
 expected_too [] = []
 expected_too names = codes "; " ++ failure_message names
 
--- the message on a failure where these names are expected, and others are not, in pest's words:
+-- the message on a failure if these names are expected, and others are not, in pest's words:
 -- `unexpected a; expected b or c`
 abbrev pub failure_text : (names others : List Text) → List ℕ
 failure_text names [] = expected_or_none names

@@ -44,15 +44,15 @@ trees_text format_is.Lines text end_ trees = lines_of 0 trees
 trees_text format_is.Json text end_ trees =
     escaped_json (compact_text (answer_data text end_ trees)) ++ codes "\n"
 
--- the note on a match that ends at a position, and has its furthest failure at another, where these names
--- are expected: as text, where more than a line's end of the text is left
+-- the note on a match that ends at a position, and has its furthest failure at another, if these names
+-- are expected: as text, if more than a line's end of the text is left
 abbrev pub end_note : Format → List ℕ → (end_ place : ℕ) → List Text → Option (List ℕ)
 end_note format_is.Text text end_ place names =
     if is_more (drop end_ text) then Some (end_text text end_ place names) else None
 end_note format_is.Json text end_ place names = None
 end_note format_is.Lines text end_ place names = None
 
--- whether the note tells what is expected: as text, where more than a line's end is left, and the furthest
+-- whether the note tells what is expected: as text, if more than a line's end is left, and the furthest
 -- failure is no earlier than the end
 abbrev pub tells_expected : Format → List ℕ → (end_ place : ℕ) → Bool
 tells_expected format_is.Text text end_ place = nat_le end_ place && is_more (drop end_ text)
@@ -66,7 +66,7 @@ pub record IsShown (g : Grammar) (rule text : List ℕ) (format : Format) (lines
   pub matches : Has g (chars rule) text is_in_property (Success end_ trees)
   pub lines_show : lines ≡ trees_text format text end_.position trees
 
--- for each outcome of the rule the matcher may take more steps than the limit, and so does a run, also where
+-- for each outcome of the rule the matcher may take more steps than the limit, and so does a run, also if
 -- there is none
 abbrev pub TakesTooManySteps : Grammar → List ℕ → List ℕ → ℕ → Type 0
 TakesTooManySteps g rule text limit =
@@ -95,7 +95,7 @@ pub record ReportsAt (name text : List ℕ) (place : ℕ) (message report : List
   pub line : error_line error ≡ printed_line text place
   pub shows : ShowsError (Some name) error report
 
--- a report of a failure there, where these names are expected, and others are not
+-- a report of a failure there, if these names are expected, and others are not
 abbrev pub ReportsFailure : (name text : List ℕ) → ℕ → (names others : List Text) → List ℕ → Type 0
 ReportsFailure name text place names others report =
     ReportsAt name text place (failure_text names others) report
@@ -111,7 +111,7 @@ pub record HasFailed (g : Grammar) (rule name text report : List ℕ) : Type 0 w
   pub reports : ReportsFailure name text place names others report
 
 -- the rule, called at the start of the text of a file, fails, and the report shows the furthest position of a
--- failure, where what is expected was not found in so many steps; and for each outcome the matcher may take
+-- failure, if what is expected was not found in so many steps; and for each outcome the matcher may take
 -- more
 pub record HasUnnamed (g : Grammar) (rule name text : List ℕ) (limit : ℕ) (report : List ℕ) : Type 0 where
   pub fails : Has g (chars rule) text is_in_property Failure
@@ -158,7 +158,7 @@ IsFailureReport name text failure (is.Failed report) =
 IsFailureReport name text failure is.Memory = ⊤
 IsFailureReport name text failure _ = ⊥
 
--- the outcome reports a failure at a position of the text of a file, where what is expected was not found in
+-- the outcome reports a failure at a position of the text of a file, if what is expected was not found in
 -- so many steps; or it reports an allocation failure
 abbrev pub IsUnnamedReport : List ℕ → List ℕ → (place limit : ℕ) → Outcome → Type 0
 IsUnnamedReport name text place limit (is.Unnamed report) =
@@ -167,7 +167,7 @@ IsUnnamedReport name text place limit is.Memory = ⊤
 IsUnnamedReport name text place limit _ = ⊥
 
 -- the outcome shows the trees of a match that ends at a position, and has its furthest failure at another,
--- where these names are expected; or it reports an allocation failure
+-- if these names are expected; or it reports an allocation failure
 abbrev pub IsMatchReport : List ℕ → Format → (end_ place : ℕ) → List Text → Trees → Outcome → Type 0
 IsMatchReport text format end_ place names trees (is.Shown lines note) =
     (string_bytes lines ≡ trees_text format text end_ trees)

@@ -51,7 +51,7 @@ abbrev pub is_within : Option (List OpenCall) → List OpenCall → Bool
 is_within None open_calls = false
 is_within (Some before) open_calls = is_same before open_calls
 
--- a rule that is expected within some calls: on a line of its own with the calls, but after a comma where
+-- a rule that is expected within some calls: on a line of its own with the calls, but after a comma if
 -- the calls are those of the path before
 abbrev pub path_text : List ℕ → List Text → Option (List OpenCall) → List OpenCall → ℕ → List ℕ
 path_text text names before open_calls row =

@@ -22,13 +22,13 @@ is_missing finding = is_missing_property finding.problem (written (piece_of find
 abbrev pub IsMissing : NameFinding → Bor (List ℕ) → Type 0
 IsMissing finding name = (is_missing finding ≡ true) × (written (piece_of finding.span) ≡ name.now)
 
--- the name of such a finding; none where there is none
+-- the name of such a finding; none if there is none
 abbrev pub IsPropertyIn : List NameFinding → Option (Bor (List ℕ)) → Type 0
 IsPropertyIn findings None =
     (k : ℕ) (d : NameFinding) → k < length findings → is_missing (get_or findings k d) ≡ false
 IsPropertyIn findings (Some name) = Any (λ finding. IsMissing finding name) findings
 
--- such a property of the names for which a grammar is refused; none where it is refused for anything else
+-- such a property of the names for which a grammar is refused; none if it is refused for anything else
 abbrev pub IsPropertyOf : OpenError → Option (Bor (List ℕ)) → Type 0
 IsPropertyOf (error_is.Names findings) property = IsPropertyIn findings.items property
 IsPropertyOf error property = property ≡ None

@@ -19,7 +19,7 @@ name_line name = encode_utf8_all name ++ codes "\n"
 abbrev pub name_lines : Grammar → List ℕ
 name_lines g = flat_map name_line (rule_names g)
 
--- how many edits lead from one text to another, where the swap of two characters is one
+-- how many edits lead from one text to another, if the swap of two characters is one
 abbrev pub distance : List ℕ → List ℕ → ℕ
 distance name other = (osa_table (chars name) (chars other)).last_row (length (chars other))
 

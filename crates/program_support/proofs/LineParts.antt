@@ -23,7 +23,7 @@ one_text texts i d old new final h gained rest =
 pub line_break : (texts : List (Bor (List ℕ))) (i : ℕ) (old new : Option (List ℕ)) → length texts ≤ i → Appends old new (10 ∷ []) → Appends old new (line_of (drop i texts))
 line_break texts i old new h gained = subst (λ ts. Appends old new (line_of ts)) (sym (drop_all i texts h)) gained
 
--- what follows where a call succeeds
+-- what follows if a call succeeds
 pub on_ok : {X E : Type 0} (r : Result X E) (P Q : Type 0) → (P → Q) → OnOk r P → OnOk r Q
 on_ok (Ok x) P Q f h = f h
 on_ok (Err e) P Q f h = tt

@@ -22,7 +22,7 @@ pub record WritesReport {X E : Type 0} (is_terminal : Bool) (errors : List (Erro
   pub shows : IsReportFor is_terminal errors report
   pub line : WritesLine report written old new
 
--- a note is a line; where there is none, the writer is the same
+-- a note is a line; if there is none, the writer is the same
 abbrev pub WritesNote : {X E : Type 0} → Option (List ℕ) → Type 0 → Result X E
     → Option (List ℕ) → Option (List ℕ) → Type 0
 WritesNote None same written old new = same

@@ -20,7 +20,7 @@ pub record IsPartOf (text part : List ℕ) : Type 0 where
 abbrev pub margin : ℕ → List ℕ
 margin number = repeat (length (decimal number)) (codes " ")
 
--- `…` where a line is cut
+-- `…` if a line is cut
 abbrev pub dots : Bool → List ℕ
 dots is_cut = if is_cut then 226 ∷ 128 ∷ 166 ∷ [] else []
 

@@ -5,8 +5,15 @@ use std::alloc::Global;
 use std::fs::File;
 use std::io::{self, Read};
 
-/// Reads all bytes of the file named `name`, or of standard input for `-`. The errors are those of the
-/// system, and an allocation failure. No clause can say what a file has.
+/// The number of bytes from which on neither a grammar nor a text is read.
+const TOO_LONG: usize = 1 << 32;
+
+/// Reads all bytes of the file named `name`, or of standard input for `-`. No clause can say what a file has.
+///
+/// # Errors
+/// - An error of the system, if it refuses to read.
+/// - An allocation failure.
+/// - An error with the words `it has 4 GiB or more`, if there are 2^32 bytes or more.
 pub fn read_input(rt: &HostRuntime, name: &str) -> io::Result<Vec<u8>> {
     if name == "-" {
         read_all(rt.alloc(), &mut rt.stdin())
@@ -15,11 +22,14 @@ pub fn read_input(rt: &HostRuntime, name: &str) -> io::Result<Vec<u8>> {
     }
 }
 
-/// Reads all bytes that a reader gives.
+/// Reads all bytes that a reader gives, if these are fewer than 2^32.
 fn read_all<R: Read>(alloc: Global, reader: &mut R) -> io::Result<Vec<u8>>
     ensures { IfOk result (λ bytes. IfSome (R.remaining reader.old) (λ left. bytes.items ≡ left)) }
 {
     let mut bytes = Vec::new(alloc);
     reader.read_to_end(&mut bytes)?;
+    if bytes.len() >= TOO_LONG {
+        return Err(io::Error::other("it has 4 GiB or more"));
+    }
     Ok(bytes)
 }

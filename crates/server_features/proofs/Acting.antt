@@ -8,7 +8,7 @@ use Rattle.server_symbols.specs.declared.tokens.Extent.{Extent}
 use Rattle.serde_json.specs.Data.{Data}
 
 module _ (context : Context) (extent : Extent) where
-  -- where there is no room
+  -- if there is no room
   pub no_room : (diagnostics : List Diagnostic) (room : ℕ) → room ≡ 0 → AreActionsOf context extent room diagnostics []
   no_room [] room e = refl
   no_room (d ∷ ds) room e = rw e refl

@@ -1,5 +1,5 @@
 -- Code actions.
-use Rattle.std.specs.Prelude.{◌≡◌, ◌-◌, ◌==◌, ◌++◌, ◌||◌, ℕ, List, [], ◌∷◌, Bool, MatchBool, None, Option, Some, codes, is_none, length, string_bytes}
+use Rattle.std.specs.Prelude.{◌≡◌, ◌-◌, ◌==◌, ◌++◌, ◌||◌, ℕ, List, [], ◌∷◌, Bool, MatchBool, None, Option, Some, codes, false, is_none, length, string_bytes}
 use Rattle.lint_findings.specs.declared.diagnostic.Diagnostic.{Diagnostic}
 use Rattle.server_features.specs.Diagnostics.{diagnostic_data, extent_of}
 use Rattle.server_features.specs.Formatting.{do_touch}
@@ -12,6 +12,7 @@ use Rattle.server_protocol.specs.declared.messages.Answer.{Answer}
 use Rattle.server_protocol.specs.declared.messages.Answer.TheVariants as answer
 use Rattle.server_protocol.specs.declared.messages.ErrorCode.TheVariants.{InvalidParams}
 use Rattle.lint_diagnostics.specs.Diagnosis.{IsDiagnosis}
+use Rattle.lint_diagnostics.specs.Fixing.{IsMended}
 use Rattle.server_requests.specs.Locations.{edit_at}
 use Rattle.server_requests.specs.Names.{IsAskedExtent}
 use Rattle.server_requests.specs.declared.context.Context.{Context}
@@ -47,7 +48,7 @@ abbrev pub actions_by : Context → Diagnostic → Option Remedy → List Data
 actions_by context diagnostic None = []
 actions_by context diagnostic (Some remedy) = action_data context diagnostic remedy ∷ []
 
--- the action of the remedy of a diagnostic, where it has one
+-- the action of the remedy of a diagnostic, if it has one
 abbrev pub IsActionFor : Context → Diagnostic → List Data → Type 0
 IsActionFor context diagnostic values = (remedy : Option Remedy)
     × IsRemedyBy context diagnostic diagnostic.help remedy × (values ≡ actions_by context diagnostic remedy)
@@ -75,8 +76,31 @@ pub record AreActionsAt (context : Context) (extent : Extent) (v : Data) : Type 
   pub actions : AreActionsOf context extent 20 diagnostics values
   pub value : v ≡ array (items_of values)
 
--- the actions for the range in parameters, or none where they are not asked for
+-- whether the action that applies all safe fixes is asked for
+abbrev pub asks_to_fix_all : Data → Bool
+asks_to_fix_all params = lists_in (codes "/context/only") (codes "source.fixAll") params
+
+-- the action that replaces a document's text by another
+abbrev pub fix_all_data : Context → List ℕ → Data
+fix_all_data context fixed = object
+    (member (codes "edit") (workspace_edit_data context.uri.now
+    (item (edit_at context fixed (extent_of 0 (length context.text.now))) no_items))
+    (member (codes "kind") (string (codes "source.fixAll"))
+    (member (codes "title") (string (codes "Apply all safe fixes")) no_members)))
+
+-- no action, or the one that replaces a document's text by itself with safe fixes
+pub data FixesAll (context : Context) (v : Data) : Type 0 where
+  nothing : v ≡ array no_items → FixesAll context v
+  fixes : (fixed : List ℕ) → IsMended false [] context.text.now fixed
+      → v ≡ array (item (fix_all_data context fixed) no_items) → FixesAll context v
+
+-- the actions that are asked for: of the range in parameters, or of the whole text
+abbrev pub AreAsked : Context → Extent → Data → Data → Type 0
+AreAsked context extent params v = MatchBool (asks_to_fix_all params) (FixesAll context v)
+    (MatchBool (is_asked_for params) (AreActionsAt context extent v) (v ≡ array no_items))
+
+-- the actions for the range in parameters
 abbrev pub AreActions : Context → Data → Answer → Type 0
 AreActions context params (answer.Result v) = (extent : Extent) × IsAskedExtent context params extent
-    × MatchBool (is_asked_for params) (AreActionsAt context extent (view v)) (view v ≡ array no_items)
+    × AreAsked context extent params (view v)
 AreActions context params (answer.Error code reason) = (asked_range params ≡ None) × (code ≡ InvalidParams)

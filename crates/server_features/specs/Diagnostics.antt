@@ -70,7 +70,7 @@ abbrev pub plain_data : Encoding → List ℕ → Diagnostic → Data
 plain_data encoding text diagnostic =
     object (first_members encoding text diagnostic (last_members diagnostic))
 
--- a diagnostic of a text, whose document has this URI, with other parts of the text where these are asked
+-- a diagnostic of a text, whose document has this URI, with other parts of the text if these are asked
 -- for
 abbrev pub diagnostic_data : Bool → Encoding → List ℕ → List ℕ → Diagnostic → Data
 diagnostic_data false encoding text uri diagnostic = plain_data encoding text diagnostic
@@ -104,7 +104,7 @@ AreOthers (Some earlier) text diagnostics others =
     (others ≡ []) ⊎ AreStaying earlier text diagnostics others
 
 -- a message publishes the diagnostics of a document's text, each once and in their order, and with errors
--- warnings of an earlier text that stay; with related information where the client has that
+-- warnings of an earlier text that stay; with related information if the client has that
 pub record Publishes (client : Client) (earlier : Option Diagnosis) (uri : List ℕ) (document : Document)
     (body : List ℕ) : Type 0 where
   pub diagnostics : List Diagnostic

@@ -10,13 +10,13 @@ use Rattle.pest_meta.specs.Spelling.{SpellsGrammar, SpellsNone}
 use Rattle.server_features.specs.declared.facts.RuleFacts.{RuleFacts}
 use Rattle.server_features.specs.declared.facts.RuleTable.{RuleTable}
 
--- facts of the rule that a name means; none where it means no rule
+-- facts of the rule that a name means; none if it means no rule
 abbrev pub AreFactsIn : Grammar → List ℕ → Option RuleFacts → Type 0
 AreFactsIn rules name None = rule_of rules (chars name) ≡ None
 AreFactsIn rules name (Some facts) = (rule : Rule) × (rule_of rules (chars name) ≡ Some rule)
     × Decides facts.is_nullable (IsNullable rules rule.body)
 
--- facts of the rule that a name means in the grammar that a text spells; none where the text spells none
+-- facts of the rule that a name means in the grammar that a text spells; none if the text spells none
 abbrev pub AreFacts : List ℕ → List ℕ → Option RuleFacts → Type 0
 AreFacts text name facts = ((rules : Grammar) × SpellsGrammar text rules × AreFactsIn rules name facts)
     ⊎ (SpellsNone text × (facts ≡ None))
@@ -37,7 +37,7 @@ abbrev pub IsTableOf : Grammar → RuleTable → Type 0
 IsTableOf rules table = (name : List ℕ) → IsUtf8 name → (facts : Option RuleFacts)
     → AreFactsBy table name facts → AreFactsIn rules name facts
 
--- a table of the rules that a text spells; none where it spells none
+-- a table of the rules that a text spells; none if it spells none
 abbrev pub IsStated : List ℕ → Option RuleTable → Type 0
 IsStated text None = SpellsNone text
 IsStated text (Some table) = (rules : Grammar) × SpellsGrammar text rules × IsTableOf rules table

@@ -59,7 +59,7 @@ abbrev pub HasValue : (Data → Type 0) → Answer → Type 0
 HasValue P (answer.Result v) = P (view v)
 HasValue P (answer.Error code reason) = ⊥
 
--- an answer has such edits of a document to its formatted text, or null where it stays as it is
+-- an answer has such edits of a document to its formatted text, or null if it stays as it is
 abbrev pub Formats : (Context → List ℕ → Data → Type 0) → Context → Answer → Type 0
 Formats P context a = (StaysAsItIs context.text.now × HasValue (λ v. v ≡ null) a)
     ⊎ ((formatted : List ℕ) × IsFormatted OfFirstLine context.text.now formatted

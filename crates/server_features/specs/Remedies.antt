@@ -24,7 +24,7 @@ abbrev pub is_safe : Applicability → Bool
 is_safe applicability.Safe = true
 is_safe applicability.Unsafe = false
 
--- a remedy replaces what a fix does, by the same text and under its title, and is preferred where it is safe
+-- a remedy replaces what a fix does, by the same text and under its title, and is preferred if it is safe
 abbrev pub AppliesFix : Fix → Remedy → Type 0
 AppliesFix fix remedy =
     Replaces fix.start fix.end (string_bytes fix.replacement) (string_bytes fix.title) remedy
@@ -77,7 +77,7 @@ IsRemedyByFix context diagnostic None remedy =
 IsRemedyByFix context diagnostic (Some fix) None = ⊥
 IsRemedyByFix context diagnostic (Some fix) (Some remedy) = AppliesFix fix remedy
 
--- the remedy of a diagnostic: the fix of its help, where it has one, or else that of its code
+-- the remedy of a diagnostic: the fix of its help, if it has one, or else that of its code
 abbrev pub IsRemedyBy : Context → Diagnostic → Option Help → Option Remedy → Type 0
 IsRemedyBy context diagnostic None remedy = IsRemedyByCode context diagnostic diagnostic.code remedy
 IsRemedyBy context diagnostic (Some help) remedy =

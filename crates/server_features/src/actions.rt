@@ -1,7 +1,7 @@
 //! Code actions: the remedies of diagnostics.
 ghost use Rattle.std.specs.Prelude.{◌≡◌, ◌++◌, ◌∷◌, [], IfOk, List, OnOk, map, string_bytes};
 ghost use Rattle.server_features.specs.Actions as spec;
-ghost use Rattle.server_features.specs.Actions.{AddsAction, AreActions, AreActionsAt, AreActionsOf, IsActionFor};
+ghost use Rattle.server_features.specs.Actions.{AddsAction, AreActions, AreActionsAt, AreActionsOf, FixesAll, IsActionFor};
 ghost use Rattle.serde_json.specs.Data.{Data};
 ghost use Rattle.serde_json.specs.View.{view};
 
@@ -9,7 +9,7 @@ use crate::diagnoses::{Diagnoses, Diagnosis};
 use crate::diagnostics::{diagnostic_value, extent_of};
 use crate::formatting::do_touch;
 use crate::remedies::{Remedy, remedy_of};
-use lint_diagnostics::Diagnostic;
+use lint_diagnostics::{Diagnostic, Options, fix_text};
 use serde_json::{Value, json};
 use server_protocol::messages::{Answer, ErrorCode};
 use server_protocol::params::lists_at;
@@ -22,8 +22,9 @@ use std::alloc::{AllocError, Global};
 /// The most remedies that are answered at once.
 const MOST_ACTIONS: usize = 20;
 
-/// Returns the remedies of the diagnostics that a range touches, at most 20. The text is diagnosed where its
-/// diagnosis is not among those that are kept.
+/// Returns the remedies of the diagnostics that a range touches, at most 20. If the parameters ask for
+/// `source.fixAll`, the answer is the action that applies all safe fixes. If no diagnosis of the text is kept,
+/// the text is diagnosed.
 pub fn code_actions(
     alloc: Global,
     context: &Context<'_>,
@@ -35,10 +36,51 @@ pub fn code_actions(
     let Some(extent) = context.extent(params) else {
         return Ok(Answer::Error(ErrorCode::InvalidParams, "no range"));
     };
+    if asks_to_fix_all(params) {
+        return Ok(Answer::Result(fix_all_at(alloc, context)?));
+    }
     if !is_asked_for(params) {
         return Ok(Answer::Result(Value::Array(Vec::new(alloc))));
     }
     Ok(Answer::Result(actions_at(alloc, context, diagnoses, extent)?))
+}
+
+/// Whether the action that applies all safe fixes is asked for.
+fn asks_to_fix_all(params: &Value) -> bool
+    ensures { result ≡ spec.asks_to_fix_all (view params.now) }
+{
+    lists_at(params, "/context/only", "source.fixAll")
+}
+
+/// Returns the action that applies all safe fixes to a document's text, as a list of it. If there is no safe
+/// fix, the list is empty.
+fn fix_all_at(alloc: Global, context: &Context<'_>) -> Result<Value, AllocError>
+    ensures { IfOk result (λ v. FixesAll context.now (view v)) }
+{
+    let mended = fix_text(alloc, context.text, Options::default(), false)?;
+    let mut actions = Vec::new(alloc);
+    if mended.applied.is_empty() {
+        return Ok(Value::Array(actions));
+    }
+    let action = fix_all_value(alloc, context, mended.text.as_str())?;
+    actions.push(action)?;
+    Ok(Value::Array(actions))
+}
+
+/// Returns the action that replaces a document's text by `fixed`.
+fn fix_all_value(alloc: Global, context: &Context<'_>, fixed: &str) -> Result<Value, AllocError>
+    ensures { IfOk result (λ v. view v ≡ spec.fix_all_data context.now fixed.now) }
+{
+    let mut edits = Vec::new(alloc);
+    let extent = extent_of(0, context.text.len());
+    let edit = edit_at(alloc, context, extent, fixed)?;
+    edits.push(edit)?;
+    let edit = workspace_edit_value(alloc, context.uri, edits)?;
+    json!(in alloc; {
+        "title": "Apply all safe fixes",
+        "kind": "source.fixAll",
+        "edit": edit,
+    })
 }
 
 /// Whether quick fixes are asked for.
@@ -104,7 +146,7 @@ fn actions_of(
     Ok(actions)
 }
 
-/// Adds the remedy of a diagnostic, where an extent touches it.
+/// Adds the remedy of a diagnostic, if an extent touches it.
 fn push_touched(
     alloc: Global,
     context: &Context<'_>,
@@ -121,7 +163,7 @@ fn push_touched(
     push_action(alloc, context, diagnostic, actions)
 }
 
-/// Adds the remedy of a diagnostic, where it has one.
+/// Adds the remedy of a diagnostic, if it has one.
 fn push_action(
     alloc: Global,
     context: &Context<'_>,

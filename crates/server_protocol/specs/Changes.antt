@@ -24,7 +24,7 @@ range_in d = range_from (option_and_then position_in (get (codes "start") d))
 abbrev pub asked_range : Data → Option Range
 asked_range d = option_and_then range_in (get (codes "range") d)
 
--- the range of a change, if it has one; none where that is no range
+-- the range of a change, if it has one; none if that is no range
 abbrev pub range_if : Option Data → Option (Option Range)
 range_if None = Some None
 range_if (Some d) = option_map Some (range_in d)
@@ -32,7 +32,7 @@ range_if (Some d) = option_map Some (range_in d)
 abbrev pub changed_range : Data → Option (Option Range)
 changed_range d = range_if (get (codes "range") d)
 
--- a change has the text of an object, and its range where it has one
+-- a change has the text of an object, and its range if it has one
 pub record IsChangeIn (d : Data) (change : Change) : Type 0 where
   pub text : text_in (codes "/text") d ≡ Some change.text.now
   pub range : changed_range d ≡ Some change.range

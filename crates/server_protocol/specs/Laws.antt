@@ -9,7 +9,7 @@ abbrev pub OneOffset : Type 0
 OneOffset = (encoding : Encoding) (text : List ℕ) (position : Position) (a b : ℕ)
     → IsOffset encoding text position a → IsOffset encoding text position b → a ≡ b
 
--- the position of a byte names that byte, where any position does
+-- the position of a byte names that byte, if any position does
 abbrev pub Exact : Type 0
 Exact = (encoding : Encoding) (text : List ℕ) (k : ℕ)
     → IsPlace text k → IsOffset encoding text (position_at encoding text k) k

@@ -63,7 +63,7 @@ id_of d = option_and_then (λ id. if is_id id then Some id else None) (get (code
 abbrev pub request_of : Data → Option (Data × List ℕ)
 request_of d = option_and_then (λ method. option_map (λ id. (id, method)) (id_of d)) (method_of d)
 
--- the method, where there is no id
+-- the method, if there is no id
 abbrev pub without_id : Option Data → List ℕ → Option (List ℕ)
 without_id None method = Some method
 without_id (Some id) method = None

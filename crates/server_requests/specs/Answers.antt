@@ -18,7 +18,7 @@ use Rattle.server_symbols.specs.Occurrences.{names_of, occurrences}
 use Rattle.server_symbols.specs.Renaming.{Renames}
 use Rattle.server_symbols.specs.declared.tokens.Extent.{Extent}
 
--- the definitions of the name at the position in parameters, or null where there is none
+-- the definitions of the name at the position in parameters, or null if there is none
 abbrev pub AreDefinitions : Context → Data → Answer → Type 0
 AreDefinitions context d (answer.Result v) = (HasNoName context d × (view v ≡ null))
     ⊎ ((name : Name) × IsAskedName context d name × (view v ≡ locations_at context
@@ -32,7 +32,7 @@ references_to context name false =
     filter (is_call context.definitions.now) (occurrences context.text.now name context.tokens.now)
 
 -- where the name at the position in parameters occurs, with its definitions if they ask for these, or null
--- where there is none
+-- if there is none
 abbrev pub AreReferences : Context → Data → Answer → Type 0
 AreReferences context d (answer.Result v) = (HasNoName context d × (view v ≡ null))
     ⊎ ((name : Name) × IsAskedName context d name × (view v ≡ locations_at context

@@ -21,7 +21,7 @@ with_letter text k = take k text ++ codes "a" ++ drop k text
 abbrev pub is_name_over : ℕ → Token → Bool
 is_name_over k token = is_name token.class && nat_le token.start k && nat_lt k token.end
 
--- the completions before a byte: none where a letter that is put there is not one of a name
+-- the completions before a byte: none if a letter that is put there is not one of a name
 pub record AreCompletionsAt (context : Context) (k : ℕ) (v : Data) : Type 0 where
   pub tokens : List Token
   pub lexed : AreTokens (with_letter context.text.now k) tokens

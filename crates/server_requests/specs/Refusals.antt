@@ -46,7 +46,7 @@ abbrev pub prepared_data : Context → Name → Data
 prepared_data context name = object (member (codes "placeholder") (string name.text.now)
     (member (codes "range") (range_at context name.extent) no_members))
 
--- a name can be renamed where a rule of that name is defined
+-- a name can be renamed if a rule of that name is defined
 abbrev pub IsPreparedAt : Context → Name → Answer → Type 0
 IsPreparedAt context name (answer.Result v) =
     (defined_as context name ≢ []) × (view v ≡ prepared_data context name)
@@ -57,7 +57,7 @@ abbrev pub IsNull : Answer → Type 0
 IsNull (answer.Result v) = view v ≡ null
 IsNull (answer.Error code reason) = ⊥
 
--- whether the name at the position in parameters can be renamed; null where there is none
+-- whether the name at the position in parameters can be renamed; null if there is none
 abbrev pub IsPrepared : Context → Data → Answer → Type 0
 IsPrepared context d a = (HasNoName context d × IsNull a)
     ⊎ ((name : Name) × IsAskedName context d name × IsPreparedAt context name a)

@@ -13,6 +13,6 @@ abbrev pub is_whole : List ℕ → Extent → Bool
 is_whole text extent =
     nat_le extent.start extent.end && (is_boundary text extent.start && is_boundary text extent.end)
 
--- the text of an extent, or nothing where it does not have whole characters
+-- the text of an extent, or nothing if it does not have whole characters
 abbrev pub shown : List ℕ → Extent → List ℕ
 shown text extent = if is_whole text extent then part text extent else []

@@ -41,7 +41,7 @@ pub record ExpectsAll (classes : Classes) : Type 0 where
       (Seq (Str (codes "x")) (Choice (Ident (codes "EOI")) (Ident (codes "c"))))
       Normal (Str (codes "y"))) classes (codes "xw") (codes "EOI" ∷ codes "c" ∷ [])
 
--- on `xw`, `a = ${ "x" ~ !b ~ c }` expects c alone, and `a = ${ "x" ~ &b ~ c }` expects b; where `!b` alone
+-- on `xw`, `a = ${ "x" ~ !b ~ c }` expects c alone, and `a = ${ "x" ~ &b ~ c }` expects b; if `!b` alone
 -- got that far, as in `a = ${ "x" ~ !b ~ "y" }`, nothing is expected
 pub record NoneBelowNot (classes : Classes) : Type 0 where
   pub below_not : Expects (above_b_and_c CompoundAtomic

@@ -27,14 +27,14 @@ CountsUnderPredicate classes = HasRun
     classes (codes "xz") (Success (end_of 2 (at_start [])) (Tree (codes "a") 0 2 None' None')) 1
 
 -- on `xz`, the call of `b` in `"x" ~ b` fails at 1: in an Atomic rule it doesn't count, so that no place is
--- further than the start, where the rule itself fails; in a CompoundAtomic one it counts
+-- further than the start, if the rule itself fails; in a CompoundAtomic one it counts
 pub record CountsByMode (classes : Classes) : Type 0 where
   pub in_atomic : HasRun (above_b Atomic (Seq (Str (codes "x")) (Ident (codes "b")))) classes (codes "xz")
       Failure 0
   pub in_compound_atomic : HasRun (above_b CompoundAtomic (Seq (Str (codes "x")) (Ident (codes "b"))))
       classes (codes "xz") Failure 1
 
--- on `xz`, the first side of `a = ${ "x" ~ b | "z" }` is given up at 1: its call of `b` counts, also where
+-- on `xz`, the first side of `a = ${ "x" ~ b | "z" }` is given up at 1: its call of `b` counts, also if
 -- another side then matches
 pub record CountsWhenGivenUp (classes : Classes) : Type 0 where
   pub both_fail : HasRun

@@ -4,7 +4,7 @@ use Rattle.base_language.specs.Language.Text.{Text}
 use Rattle.base_language.specs.Language.Expression.{Expression, Str, Insens, Ident, PosPred, NegPred, Seq, Opt, RepMin, RepMinMax, PushLiteral, NodeTag}
 use Rattle.base_language.specs.Language.WellFormed.{IsNullable, CannotFail, LeftCalls}
 
--- by the rules of IsNullable, where no name is a rule's
+-- by the rules of IsNullable, if no name is a rule's
 pub record NullableOrNot : Type 0 where
   pub empty_literal : IsNullable [] (Str [])
   pub empty_insensitive : IsNullable [] (Insens [])
@@ -27,7 +27,7 @@ pub record NullableOrNot : Type 0 where
   pub tagged_empty : (t : Text) → IsNullable [] (NodeTag (Str []) t)
   pub tagged_literal : (t : Text) → IsNullable [] (NodeTag (Str (codes "x")) t) → ⊥
 
--- by the rules of CannotFail, where no name is a rule's
+-- by the rules of CannotFail, if no name is a rule's
 pub record CannotFailOrMay : Type 0 where
   pub empty_literal : CannotFail [] (Str [])
   pub empty_insensitive : CannotFail [] (Insens [])

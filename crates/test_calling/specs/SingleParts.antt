@@ -43,7 +43,7 @@ pub record TwoCopies (classes : Classes) : Type 0 where
   pub at_least_of_three : Matches [] classes (RepMin (Str (codes "x")) 2) AtomicMode
       (at_start (codes "xxx")) (ends_at (end_of 3 (at_start [])))
 
--- `"x"?` takes what its operand takes, once; where that fails, nothing
+-- `"x"?` takes what its operand takes, once; if that fails, nothing
 pub record Options (classes : Classes) : Type 0 where
   pub succeeds : Matches [] classes (Opt (Str (codes "x"))) NonAtomicMode (at_start (codes "xx"))
       (ends_at (record { position = 1; rest = codes "x"; stack = [] }))

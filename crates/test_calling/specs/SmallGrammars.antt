@@ -217,7 +217,7 @@ pub record EmptiesTheStack (classes : Classes) : Type 0 where
   pub pop_all_fails : Matches [] classes (Ident (codes "POP_ALL")) NonAtomicMode (stacked (codes "ab"))
       Failure
 
--- `!"a"` succeeds where `"a"` fails, and takes nothing; where `"a"` succeeds, it fails
+-- `!"a"` succeeds where `"a"` fails, and takes nothing; if `"a"` succeeds, it fails
 pub record NegativePredicates (classes : Classes) : Type 0 where
   pub holds : Matches [] classes (NegPred (Str (codes "a"))) NonAtomicMode (at_start (codes "b"))
       (ends_at (at_start (codes "b")))

@@ -20,7 +20,7 @@ pushing =
     ∷ []
 
 -- a literal push pushes its text, be it empty or at the end of the input, and takes nothing; no other
--- outcome exists, and no tree; a POP after it takes the text; where a sequence fails after it, its text is
+-- outcome exists, and no tree; a POP after it takes the text; if a sequence fails after it, its text is
 -- off the stack again
 pub record LiteralPushes (classes : Classes) : Type 0 where
   pub pushes : Matches [] classes (PushLiteral (codes "x")) NonAtomicMode (stacked (codes "y"))

@@ -81,7 +81,7 @@ pub fn non_atomic_inside()
     ensures { (classes : Classes) → NonAtomicInside classes }
 {}
 
-/// Where a name is defined twice, it means the last rule.
+/// If a name is defined twice, it means the last rule.
 pub fn last_rule_is_meant()
     ensures { (classes : Classes) → LastRuleIsMeant classes }
 {}
@@ -165,7 +165,7 @@ pub fn strings_of_names()
     ensures { StringsOfNames }
 {}
 
-/// Where a failure leaves a stack, a failed `POP` has removed its entry, and a failed `POP_ALL` those down
+/// If a failure leaves a stack, a failed `POP` has removed its entry, and a failed `POP_ALL` those down
 /// to and with the one that did not match.
 pub fn failures_lose()
     ensures { (classes : Classes) → FailuresLose classes }
@@ -202,7 +202,7 @@ pub fn two_copies()
     ensures { (classes : Classes) → TwoCopies classes }
 {}
 
-/// `"x"?` takes what its operand takes, once, and nothing where that fails.
+/// `"x"?` takes what its operand takes, once, and nothing if that fails.
 pub fn options()
     ensures { (classes : Classes) → Options classes }
 {}
@@ -222,7 +222,7 @@ pub fn compound_comments()
     ensures { (classes : Classes) → CompoundComments classes }
 {}
 
-/// A failure under a predicate counts for the furthest one, also where the match succeeds.
+/// A failure under a predicate counts for the furthest one, also if the match succeeds.
 pub fn counts_under_predicate()
     ensures { (classes : Classes) → CountsUnderPredicate classes }
 {}

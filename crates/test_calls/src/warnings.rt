@@ -19,7 +19,7 @@ pub fn never_taken<'i>(alloc: Global, rules: &[ParserRule<'i>]) -> Result<Vec<Sp
     lint_warnings::unreachable_alternatives(alloc, rules)
 }
 
-/// Returns the rules that no other rule calls, where rules of some names are starts.
+/// Returns the rules that no other rule calls, if rules of some names are starts.
 pub fn never_called<'n, 'i>(
     alloc: Global,
     rules: &'n [ParserRule<'i>],

@@ -11,10 +11,10 @@ const MARK: [u8; 4] = [112, 101, 115, 116];
 /// The beginning of a block of this version: `pest`, and 3 as a word. The sum and the sections follow.
 const HEAD: [u8; 8] = [112, 101, 115, 116, 3, 0, 0, 0];
 
-/// Where the sum begins, in bytes.
+/// If the sum begins, in bytes.
 const SUM: usize = 8;
 
-/// Where the sections begin, in bytes.
+/// If the sections begin, in bytes.
 const SECTIONS: usize = 16;
 
 /// The reason why bytes are not a block of this version, as it was made.
@@ -39,7 +39,7 @@ fn sum_of(bytes: &[u8]) -> u64
     sum
 }
 
-/// Returns the bytes from a place on, in bytes; none where the place is past the end.
+/// Returns the bytes from a place on, in bytes; none if the place is past the end.
 fn bytes_from(block: &[u8], place: usize) -> &[u8]
     ensures { result.now ≡ drop place block.entry.now }
 {

@@ -13,7 +13,7 @@ pub fn rule_count(block: &[u8]) -> usize
     part_of(block, 3).len()
 }
 
-/// Returns the bytes of the name of the rule of a number; none where no rule has it.
+/// Returns the bytes of the name of the rule of a number; none if no rule has it.
 pub fn rule_name(block: &[u8], number: u32) -> &[u8]
     ensures { result.now ≡ section (part_of block.entry.now 2) number }
 {

@@ -13,7 +13,7 @@ returns-clause-refused g c =
     let here : told.result.status ≡ 1 → ReportsRefusal c.args.err.now.is_terminal c.in-Some.bytes.now told.result.write_result _ _ = rw (← c.in-Ok.ensures.cases.0) reports in
     rw c.in-Some.is here
 
--- where there are rules, the text could be read
+-- if there are rules, the text could be read
 pub returns-in-Ok-parse_and_optimize-clause-decoded : goal.returns-in-Ok-parse_and_optimize-clause-decoded
 returns-in-Ok-parse_and_optimize-clause-decoded g c =
     let status = c.print_rules.result.status in
