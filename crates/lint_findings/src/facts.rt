@@ -353,9 +353,9 @@ static FACTS: [Facts; 29] = [
         report: Report::OnRequest,
         message: "the stack is read: the time of a match has no bound that is known",
         help: Some("give each match a limit on steps"),
-        page: "The stack is read. Of rules that do not use the stack it is known after a number of turns that \
-               is linear in the text whether they match; with the stack, backtracking may take exponential \
-               time. Reported only with --warn all.\n\n    \
+        page: "The stack is read. Without it, a match takes a number of turns that is linear in the text \
+               and in its tree. With it, backtracking may take exponential time. Reported only with \
+               --warn all.\n\n    \
                quoted = { PUSH(\"'\"+) ~ (!PEEK ~ ANY)* ~ POP }\n\n\
                Give each match a limit on steps.",
     },

@@ -44,9 +44,10 @@ const STATUSES: &str =
 pub fn command<'a>(alloc: Global) -> Result<Command<'a>, AllocError>
     ensures name { IfOk result (λ command. (app_of command).top.name ≡ codes "pest-lint") }
     ensures arguments { IfOk result (λ command. arguments_of command ≡ option (codes "format")
-        ∷ option (codes "color") ∷ flag (codes "deny-warnings") ∷ option (codes "warn") ∷ options (codes "allow")
-        ∷ options (codes "deny") ∷ flag (codes "fix") ∷ flag (codes "unsafe-fixes") ∷ flag (codes "diff")
-        ∷ options (codes "start") ∷ option (codes "explain") ∷ flag (codes "list") ∷ positionals (codes "FILE") ∷ []) }
+        ∷ option (codes "color") ∷ flag (codes "deny-warnings") ∷ option (codes "warn")
+        ∷ options (codes "allow") ∷ options (codes "deny") ∷ flag (codes "fix")
+        ∷ flag (codes "unsafe-fixes") ∷ flag (codes "diff") ∷ options (codes "start")
+        ∷ option (codes "explain") ∷ flag (codes "list") ∷ positionals (codes "FILE") ∷ []) }
 {
     let about = "Reports what is wrong with pest grammars, and how to mend it";
     let command = new_command(alloc, "pest-lint", about, STATUSES)?;

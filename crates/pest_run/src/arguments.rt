@@ -94,7 +94,7 @@ fn steps_argument<'a>(alloc: Global) -> Arg<'a>
     ensures { HasForm (option (codes "steps")) result }
 {
     let help =
-        "Stop a match after N steps; if N is not given, only a match by a rule that uses the stack is \
+        "Stop a match after N steps. If N is not given, only a match by a rule that uses the stack is \
                 stopped, after 268435456 steps and 4096 more for each byte of the text";
     option(alloc, "steps", help)
         .value_name("N")

@@ -23,8 +23,8 @@ use std::alloc::{AllocError, Global};
 const MOST_ACTIONS: usize = 20;
 
 /// Returns the remedies of the diagnostics that a range touches, at most 20. If the parameters ask for
-/// `source.fixAll`, the answer is the action that applies all safe fixes. If no diagnosis of the text is kept,
-/// the text is diagnosed.
+/// `source.fixAll`, the answer is the action that applies all safe fixes. If no diagnosis of the text is
+/// kept, the text is diagnosed.
 pub fn code_actions(
     alloc: Global,
     context: &Context<'_>,
