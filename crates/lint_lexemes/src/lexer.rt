@@ -197,8 +197,11 @@ fn scan_character(bytes: &[u8], start: usize) -> (Option<LexemeClass>, usize)
         return (Some(LexemeClass::Character), second.saturating_add(1));
     }
     let mut escaped = false;
-    for at in first..line_end(bytes, first) {
+    for at in first..bytes.len() {
         let byte = byte_at(bytes, at);
+        if byte == b'\n' {
+            break;
+        }
         if escaped {
             escaped = false;
         } else if byte == b'\\' {

@@ -51,7 +51,7 @@ pub fn fix_files(
         refused: 0,
     };
     fix_all(rt, sources, options, &mut tally)?;
-    report_tally(rt, tally);
+    report_tally(rt, tally, options.takes_unsafe);
     Ok(if tally.refused == 0 {
         CLEAN
     } else {
@@ -176,17 +176,26 @@ fn report_refusal(rt: &HostRuntime, name: &str, error: &io::Error) -> Result<(),
 }
 
 /// Reports how many fixes were applied, or that there is nothing to fix.
-fn report_tally(rt: &HostRuntime, tally: Tally) {
+fn report_tally(rt: &HostRuntime, tally: Tally, takes_unsafe: bool) {
     let Tally {
         fixes,
         files,
         refused,
     } = tally;
     if fixes == 0 && refused == 0 {
-        let _ = eprintln!(rt; "nothing to fix");
+        report_nothing(rt, takes_unsafe);
         return;
     }
     let of_fixes = if fixes == 1 { "fix" } else { "fixes" };
     let of_files = if files == 1 { "file" } else { "files" };
     let _ = eprintln!(rt; "applied {fixes} {of_fixes} to {files} {of_files}");
+}
+
+/// Reports that there is nothing to fix, or that no fix is safe.
+fn report_nothing(rt: &HostRuntime, takes_unsafe: bool) {
+    if takes_unsafe {
+        let _ = eprintln!(rt; "nothing to fix");
+    } else {
+        let _ = eprintln!(rt; "no safe fix; --unsafe-fixes also applies others");
+    }
 }
