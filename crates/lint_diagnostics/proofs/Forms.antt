@@ -1,5 +1,5 @@
 -- The rules of a grammar in both forms.
-use Rattle.std.proofs.Common.{◌≡◌, List, ℕ, Err, IfOk, IfSome, None, Ok, Option, Result, Some, refl}
+use Rattle.std.proofs.Common.{List, ℕ, Err, IfOk, IfSome, None, Ok, Option, Result, Some, refl}
 use Rattle.base_ast.specs.Optimized.{optimized_rules_of}
 use Rattle.base_ast.specs.declared.optimized.OptimizedRule.{OptimizedRule}
 use Rattle.base_language.specs.Language.Text.{Text}

@@ -85,14 +85,13 @@ fn improve(
         let Some(next) = fixable_from(&draft.diagnostics, index, takes_unsafe) else {
             break;
         };
+        let Some(improved) = improve_once(alloc, &draft, next, options, takes_unsafe)? else {
+            index = next.saturating_add(1);
+            continue;
+        };
         index = next;
-        match improve_once(alloc, &draft, next, options, takes_unsafe)? {
-            Some(improved) => {
-                draft = improved.draft;
-                applied.push(improved.applied)?;
-            }
-            None => index = next.saturating_add(1),
-        }
+        draft = improved.draft;
+        applied.push(improved.applied)?;
     }
     Ok((draft.text, applied))
 }

@@ -1,7 +1,4 @@
-use Rattle.std.proofs.Common.{List, subst}
 use Rattle.base_ast.specs.Optimized.{optimized_rules_of}
-use Rattle.base_ast.specs.declared.optimized.OptimizedRule.{OptimizedRule}
-use Rattle.matcher_support.specs.Compiled.{IsCompiled}
 use Rattle.lint_diagnostics.specs.Differences.{as_optimized, as_written}
 use Rattle.lint_diagnostics.proofs.Forms.{both_forms}
 use Rattle.lint_diagnostics.proofs.comparer.forms_of.Goals as goal

@@ -1,4 +1,3 @@
-use Rattle.std.proofs.Common.{◌∙◌, subst, sym}
 use Rattle.front_spanned.specs.Erasure.{rules_without_spans}
 use Rattle.front_spanned.specs.Nodes.{rule_views}
 use Rattle.pest_meta.proofs.Spelled.{spells_accepted}
