@@ -283,7 +283,7 @@ fn retain_shown(diagnostics: &mut Vec<Diagnostic>, settings: Settings<'_>)
 
 /// Whether a diagnostic is an error, or a warning whose code is not allowed.
 fn is_shown(diagnostic: &Diagnostic, settings: Settings<'_>) -> bool
-    ensures { result ≡ spec.is_shown (asked_of settings) diagnostic.now }
+    ensures { result ≡ spec.is_shown (asked_of settings.entry) diagnostic.now }
 {
     is_error(diagnostic) || !has_one_of(settings.allowed, diagnostic)
 }
@@ -311,7 +311,7 @@ fn has_code(diagnostic: &Diagnostic, code: Code) -> bool
 
 /// Returns the status of diagnostics: 1 if one is an error or a denied warning, otherwise 0.
 pub fn status_of(diagnostics: &[Diagnostic], settings: Settings<'_>) -> u8
-    ensures { result ≡ spec.status_of (asked_of settings) diagnostics.now }
+    ensures { result ≡ spec.status_of (asked_of settings.entry) diagnostics.now }
 {
     let is_found = has_counted(diagnostics, settings);
     if is_found { FOUND } else { CLEAN }
@@ -319,7 +319,7 @@ pub fn status_of(diagnostics: &[Diagnostic], settings: Settings<'_>) -> u8
 
 /// Whether one of these counts.
 fn has_counted(diagnostics: &[Diagnostic], settings: Settings<'_>) -> bool
-    ensures { result ≡ list_any (spec.counts (asked_of settings)) diagnostics.now }
+    ensures { result ≡ list_any (spec.counts (asked_of settings.entry)) diagnostics.now }
 {
     diagnostics
         .iter()
@@ -328,7 +328,7 @@ fn has_counted(diagnostics: &[Diagnostic], settings: Settings<'_>) -> bool
 
 /// Whether a diagnostic is an error or a denied warning.
 fn is_counted(diagnostic: &Diagnostic, settings: Settings<'_>) -> bool
-    ensures { result ≡ spec.counts (asked_of settings) diagnostic.now }
+    ensures { result ≡ spec.counts (asked_of settings.entry) diagnostic.now }
 {
     settings.deny_warnings || is_error(diagnostic) || has_one_of(settings.denied, diagnostic)
 }
