@@ -2,7 +2,7 @@
 ghost use Rattle.std.specs.Prelude.{◌≡◌, ◌++◌, ◌∷◌, [], IfOk, List, OnOk, map, string_bytes};
 ghost use Rattle.server_features.specs.Actions as spec;
 ghost use Rattle.server_features.specs.Actions.{AddsAction, AreActions, AreActionsAt, AreActionsOf, FixesAll, IsActionFor};
-ghost use Rattle.serde_json.specs.Data.{Data};
+ghost use Rattle.serde_json.specs.Data.{Data, array, item, no_items};
 ghost use Rattle.serde_json.specs.View.{view};
 
 use crate::diagnoses::{Diagnoses, Diagnosis};
@@ -57,14 +57,22 @@ fn asks_to_fix_all(params: &Value) -> bool
 fn fix_all_at(alloc: Global, context: &Context<'_>) -> Result<Value, AllocError>
     ensures { IfOk result (λ v. FixesAll context.now (view v)) }
 {
-    let mended = fix_text(alloc, context.text, Options::default(), false)?;
-    let mut actions = Vec::new(alloc);
+    let mended = fix_text(alloc, context.text, Options { starts: &[] }, false)?;
     if mended.applied.is_empty() {
-        return Ok(Value::Array(actions));
+        return Ok(Value::Array(Vec::new(alloc)));
     }
     let action = fix_all_value(alloc, context, mended.text.as_str())?;
-    actions.push(action)?;
-    Ok(Value::Array(actions))
+    let list = list_of(alloc, action)?;
+    Ok(list)
+}
+
+/// Returns a list with one value.
+fn list_of(alloc: Global, value: Value) -> Result<Value, AllocError>
+    ensures { IfOk result (λ v. view v ≡ array (item (view value) no_items)) }
+{
+    let mut values = Vec::new(alloc);
+    values.push(value)?;
+    Ok(Value::Array(values))
 }
 
 /// Returns the action that replaces a document's text by `fixed`.
