@@ -41,7 +41,10 @@ fn compare(numbers: &mut Numbers, counts: &mut Counts) {
     let theirs = catch_unwind(|| pest_meta::parse_and_optimize(&grammar).map(|(_, rules)| rules));
     let ours = here_meta::parse_and_optimize(&grammar).map(|(_, rules)| rules);
     let (theirs, ours) = match (theirs, ours) {
-        (Ok(Ok(theirs)), Ok(ours)) => (pest_vm::Vm::new(theirs), here_vm::Vm::new(ours)),
+        (Ok(Ok(theirs)), Ok(ours)) => match catch_unwind(|| here_vm::Vm::new(ours)) {
+            Ok(ours) => (pest_vm::Vm::new(theirs), ours),
+            Err(_) => return tell(counts, &grammar, "not compiled here"),
+        },
         (Ok(Ok(_)), Err(errors)) if errors.iter().any(|it| it.to_string().contains("left-recursive")) => {
             counts.refused_here += 1;
             return;
