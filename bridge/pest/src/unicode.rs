@@ -10,19 +10,20 @@ use std::vec::Vec;
 
 use regex_syntax::hir::{Class, HirKind};
 
-/// The characters of a property, as ranges in order.
-struct Set(Vec<(char, char)>);
+/// The characters that do not have a property, as ranges in order. Those that have it may be one alone, which the crate
+/// does not give as a set.
+struct Others(Vec<(char, char)>);
 
-impl Set {
-    /// Returns the set of the property named `name`, or `None` if the crate does not know it. There is no set for
-    /// surrogates, since these are no characters.
-    fn of(name: &str) -> Set {
-        let class = regex_syntax::parse(&format!(r"\p{{{name}}}"));
+impl Others {
+    /// Returns the characters that do not have the property of a name. If the crate does not know it, these are all, as of the
+    /// surrogates, which are no characters.
+    fn of(name: &str) -> Others {
+        let class = regex_syntax::parse(&format!(r"\P{{{name}}}"));
         match class.as_ref().map(|class| class.kind()) {
             Ok(HirKind::Class(Class::Unicode(class))) => {
-                Set(class.iter().map(|range| (range.start(), range.end())).collect())
+                Others(class.iter().map(|range| (range.start(), range.end())).collect())
             }
-            _ => Set(Vec::new()),
+            _ => Others(Vec::from([('\0', char::MAX)])),
         }
     }
 
@@ -36,8 +37,8 @@ macro_rules! properties {
     ($($name:ident,)*) => {
         $(
             pub fn $name(c: char) -> bool {
-                static SET: OnceLock<Set> = OnceLock::new();
-                SET.get_or_init(|| Set::of(stringify!($name))).has(c)
+                static OTHERS: OnceLock<Others> = OnceLock::new();
+                !OTHERS.get_or_init(|| Others::of(stringify!($name))).has(c)
             }
         )*
 
