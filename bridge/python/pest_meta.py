@@ -21,14 +21,14 @@
     >>> pest_meta.load(block).parse("a", "xx").end
     2
 
-A refused grammar raises GrammarError, which has all that is wrong with it, but for diagnostics, which returns that;
-and a text that a rule does not match raises MatchError; a text that is no str is a TypeError. Positions are bytes of the
-UTF-8, counted from 0, as in docs/FORMAT.md; a Tree has offsets in characters beside them. Lines and columns count from 1,
-and a column is a character.
+A refused grammar raises GrammarError, which has all errors of the grammar. Only diagnostics returns them instead. If a
+rule does not match a text, MatchError is raised. A text that is no str is a TypeError. Positions are in bytes of UTF-8,
+from 0, as in docs/FORMAT.md. A Tree also has offsets in characters. Lines and columns count from 1, and a column is a
+character.
 
-This file needs Python 3.8 and nothing else but the shared library. It looks for that in the folder that the variable
-PEST_META_LIB names, then beside this file, in ../lib, as bridge/build leaves it, in the folders of a release, and
-where the system keeps libraries. Calls may run in several threads at once.
+This file needs Python 3.8 and the shared library, and nothing else. It looks for the library in these folders, in this
+order: the one that the variable PEST_META_LIB names, that of this file, ../lib, where bridge/build puts it, those of a
+release, and those of the system. Several threads may make calls at the same time.
 """
 import bisect
 import ctypes
@@ -85,7 +85,7 @@ class LibraryError(Exception):
 
 
 class Problem(NamedTuple):
-    """Something that is wrong with a grammar."""
+    """An error of a grammar."""
 
     message: str
     """What is wrong."""
@@ -107,7 +107,7 @@ class Problem(NamedTuple):
 
 
 class Fix(NamedTuple):
-    """A change of a grammar that mends something."""
+    """A change of a grammar that fixes a diagnostic."""
 
     start: int
     """The byte at which the change starts."""
@@ -117,7 +117,7 @@ class Fix(NamedTuple):
     """The text that goes between the two."""
 
     def apply(self, grammar: str) -> str:
-        """The grammar with the change. Further fixes of the grammar are at other bytes then."""
+        """Returns the grammar with the change. Other fixes of the grammar do not fit the result."""
         source = grammar.encode()
         return (source[: self.start] + self.replacement.encode() + source[self.end :]).decode()
 
@@ -164,7 +164,7 @@ class Diagnostic(NamedTuple):
 
 
 class GrammarError(ValueError):
-    """A grammar is refused. Its text is that of the linter's errors, with their helps, where there are any."""
+    """A grammar is refused. The text has the errors of the linter, with their helps, if there are any."""
 
     def __init__(self, problems: Sequence[Problem], diagnostics: Sequence[Diagnostic] = ()) -> None:
         helps = [f"\n  help: {it.help}" if it.help else "" for it in diagnostics]
@@ -183,7 +183,8 @@ class GrammarError(ValueError):
 class Expr:
     """An expression: the name of its form, its arguments and its operands, as docs/FORMAT.md names them.
 
-    `Expr("rep_exact", (2,), (Expr("str", ("x",)),))` is `"x"{2}`. Nothing here recurses, so depth is no matter.
+    `Expr("rep_exact", (2,), (Expr("str", ("x",)),))` is `"x"{2}`. Nothing here recurses, so depth does not
+    matter.
     """
 
     __slots__ = ("form", "arguments", "operands")
@@ -239,7 +240,7 @@ class Rule(NamedTuple):
 
 
 class Optimized(NamedTuple):
-    """What a grammar gives as a whole."""
+    """The builtins that a grammar uses, and its optimized rules."""
 
     builtins: List[str]
     """The builtins that it uses, in the order of their first calls."""
@@ -316,10 +317,10 @@ class _Nodes:
 
 
 class Tree:
-    """A token pair of a matched text: its rule, its span, and the trees inside it, which are made when asked for.
+    """A token pair of a matched text: its rule, its span, and the trees inside it, which are made when they are used.
 
-    It is a sequence of the trees inside it: `for inner in tree`, `len(tree)`, `tree[0]`, `tree[-1]`. It is true also where
-    it has none. Copies are equal to the tree where they are made of it by copy.copy, and new ones by copy.deepcopy.
+    A tree is a sequence of the trees inside it: `for inner in tree`, `len(tree)`, `tree[0]`, `tree[-1]`. It is true,
+    also if it has no trees inside it. A copy by copy.copy is equal to the tree, and one by copy.deepcopy is not.
     """
 
     __slots__ = ("_nodes", "_at")
@@ -335,7 +336,7 @@ class Tree:
 
     @property
     def start(self) -> int:
-        """The byte where it starts."""
+        """The byte at which it starts."""
         return self._nodes.numbers[4 * self._at + 1]
 
     @property
@@ -345,12 +346,12 @@ class Tree:
 
     @property
     def start_character(self) -> int:
-        """How many characters of the text are before it: `text[tree.start_character:tree.end_character]` is its text."""
+        """The number of characters before it: `text[tree.start_character:tree.end_character]` is its text."""
         return self._nodes.places.character(self.start)
 
     @property
     def end_character(self) -> int:
-        """How many characters of the text are before its end."""
+        """The number of characters before its end."""
         return self._nodes.places.character(self.end)
 
     @property
@@ -469,14 +470,14 @@ def _printable(character: "re.Match[str]") -> str:
 
 
 class RunError(RuntimeError):
-    """A rule was stopped: it takes more steps than it may, or has no outcome."""
+    """A rule was stopped: it takes more steps than the limit, or it has no outcome."""
 
 
 class Matcher:
-    """Rules of a grammar, compiled once, to run them on texts. Any number of threads may use one."""
+    """The compiled rules of a grammar, which are run on texts. Any number of threads may use one Matcher."""
 
     def __init__(self, grammar: str) -> None:
-        """Reads, checks, optimizes and compiles a grammar. Raises GrammarError where anything is wrong with it."""
+        """Reads, checks, optimizes and compiles a grammar. Raises GrammarError if it is refused."""
         self._take(compile(grammar))
 
     def __repr__(self) -> str:
@@ -493,19 +494,19 @@ class Matcher:
         self._all_names = (*self.names, "EOI")
 
     def parse(self, rule: str, text: str, steps: Optional[int] = None) -> Match:
-        """Matches a text by the rule of a name, from the text's start on.
+        """Matches a text by the rule named `rule`, from the start of the text on.
 
-        A grammar that does not use the stack needs no limit: its matches take time that is linear in the text and
-        the trees. A match that uses the stack may take exponential time, as in pest: give `steps` if the text comes
-        from a stranger.
+        If the rule does not use pest's stack, it needs no limit: the turns of the match are linear in the bytes of the
+        text and in the trees. A match that uses the stack may take exponential time, as in pest. So give `steps` if the
+        text comes from an untrusted source.
 
-        With `steps` the match takes at most that many steps, and so does the search for the rules that are expected
-        where it fails. With None the match has no limit, and the search 2**23 steps and 32 more for each byte. A limit
-        of 2**64 - 1 is none.
+        `steps` is the greatest number of steps of the match. It is also that of the search for the rules that are
+        expected if the match fails. If `steps` is None, the match has no limit, and the search has 2**23 steps and 32
+        more for each byte. A limit of 2**64 - 1 is none.
 
-        Raises MatchError where the rule does not match, ValueError where no rule has the name, and RunError where
-        the run is stopped: with `steps` also where the rule fails and only the search takes more. A rule that does not
-        end in EOI may match a part of the text: see Match.end.
+        Raises MatchError if the rule does not match, ValueError if no rule has the name, and RunError if the run is
+        stopped. If `steps` is given, RunError is also raised if the rule fails and the search is stopped. A rule that
+        does not end in EOI may match a part of the text: see Match.end.
         """
         source = _encoded(text)
         words = self._words(rule, source)
@@ -521,10 +522,10 @@ class Matcher:
         raise _stop(status, "pest_meta_run", rule, limit)
 
     def paths(self, rule: str, text: str, position: int, steps: Optional[int] = None) -> List[List[Tuple[str, int]]]:
-        """Where in the grammar the rules of a MatchError at a position, in bytes, are expected.
+        """Returns the paths to the rules of a MatchError at a position in bytes.
 
-        Each path has the calls that are open there, by rule and start, the outermost first and the expected one last.
-        Raises as parse does, but a rule that fails has an answer; MemoryError where there are more than 1,024 paths.
+        A path has the calls that are open there, each with rule and start: the outermost first, and the expected one
+        last. Raises what parse raises, except for MatchError. Raises MemoryError if there are more than 1,024 paths.
         """
         source, calls = _encoded(text), _List()
         steps = _error_steps(source) if steps is None else steps
@@ -573,10 +574,10 @@ def _error_steps(source: bytes) -> int:
 
 
 def compile(grammar: str) -> bytes:
-    """A grammar, read, checked, optimized and compiled: a block of bytes for load (docs/FORMAT.md).
+    """Reads, checks, optimizes and compiles a grammar. Returns a block of bytes for load (docs/FORMAT.md).
 
-    A program can keep it in a file: nothing of the grammar is looked at when it is loaded. Raises GrammarError where
-    anything is wrong with the grammar.
+    A program can keep the block in a file. The grammar is not needed when it is loaded. Raises GrammarError if the
+    grammar is refused.
     """
     source, block = _encoded(grammar), _List()
     status = _library().pest_meta_compile(source, len(source), ctypes.byref(block))
@@ -590,7 +591,7 @@ def compile(grammar: str) -> bytes:
 
 
 def load(block: bytes) -> Matcher:
-    """The matcher of a compiled grammar. Raises ValueError where the bytes are none of this version, or were changed."""
+    """Returns the matcher of a compiled grammar. Raises ValueError if the bytes are no such block, or were changed."""
     block = bytes(block)
     status = _library().pest_meta_check(block, len(block))
     if status != _ANSWERED:
@@ -660,24 +661,24 @@ def _stop(status: int, function: str, rule: str, steps: int) -> Exception:
 
 
 def check(grammar: str) -> List[str]:
-    """The builtins that a grammar uses. Raises GrammarError where anything is wrong with the grammar.
+    """Returns the builtins that a grammar uses. Raises GrammarError if the grammar is refused.
 
-    diagnostics says more of an error, and has warnings of a grammar that is accepted.
+    diagnostics returns more about an error, and the warnings of an accepted grammar.
     """
     return optimize(grammar).builtins
 
 
 def diagnostics(grammar: str) -> List[Diagnostic]:
-    """The errors with which a grammar is refused, or else its warnings, in the order of pest-lint.
+    """Returns the errors of a grammar, or its warnings if it has no errors, in the order of pest-lint.
 
-    A refused grammar raises nothing here, and one without warnings has an empty list.
+    A refused grammar raises nothing here. If there are neither errors nor warnings, the list is empty.
     """
     lines = _fill("pest_meta_diagnostics", grammar)[1]
     return [_diagnostic(json.loads(line)) for line in lines.split(b"\n") if line]
 
 
 def rules(grammar: str) -> List[Rule]:
-    """The rules that a grammar spells. Its names are not looked at: see check."""
+    """Returns the rules of a grammar. Names are not checked: see check."""
     return [_rule(rule) for rule in _ask("pest_meta_rules", grammar)]
 
 
@@ -688,22 +689,23 @@ def optimize(grammar: str) -> Optimized:
 
 
 def optimize_rules(rules: Sequence[Rule]) -> List[Rule]:
-    """Rules that a program has made or changed, optimized. Nothing about them is checked but their form.
+    """Optimizes rules that a program has made or changed. Only their form is checked.
 
-    Raises ValueError where a rule or a node is of no form that docs/FORMAT.md has, and says which.
+    Raises ValueError if a rule or a node does not have a form of docs/FORMAT.md. The message names the rule or the
+    node.
     """
     written = [{"name": rule.name, "type": rule.type, "expr": rule.expr._nodes()} for rule in rules]
     return [_rule(rule) for rule in _ask("pest_meta_optimize", json.dumps(written))]
 
 
 def tokens(text: str, rule: str = "grammar_rules") -> List[Token]:
-    """The tokens that a rule of the meta-grammar gives for a text, from its start on."""
+    """Returns the tokens of a text by a rule of pest's grammar of grammars, from the start of the text on."""
     entries = _ask("pest_meta_tokens", text, rule)
     return [Token(*entry) if len(entry) == 3 else Token(None, *entry) for entry in entries]
 
 
 def versions() -> Tuple[str, int]:
-    """The version of the crate pest_meta that the library ports, and the number of its JSON format."""
+    """Returns the version of the crate pest_meta that the library ports, and the number of its JSON format."""
     answer = _call(_library(), "pest_meta_version")
     return answer["version"], answer["format"]
 

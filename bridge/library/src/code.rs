@@ -1,8 +1,8 @@
 //! Compiled grammars, run on texts.
 //!
-//! A block of bytes has the rules of a grammar as operations of the proved machine. It is made once, as while a program
-//! is built, and any number of threads may run it; nothing is compiled or copied then. A row is the index of a rule in
-//! the grammar; `EOI` has the one after all rules.
+//! A block of bytes has the rules of a grammar as operations of the proved machine. It is made once, for example while
+//! a program is built. Any number of threads may run it. A run compiles and copies nothing. `row` is the index of a
+//! rule in the grammar. For `EOI` it is the number of the rules.
 #![forbid(unsafe_code)]
 
 use alloc::vec::Vec;
@@ -10,29 +10,29 @@ use alloc::vec::Vec;
 use crate::foreign::{self, Given};
 pub use crate::Node;
 
-/// The nodes of a match, each before those inside it.
+/// The nodes of a match. Each is before the nodes inside it.
 pub type Nodes = Given<Node>;
 
-/// Why rules can't be compiled: they call a name that is neither a rule nor a builtin, or have a range with a bound that
-/// is no character.
+/// The rules cannot be compiled: they call a name that is neither a rule nor a builtin, or have a range with a bound
+/// that is not one character.
 #[derive(Clone, Copy, Debug, PartialEq, Eq)]
 pub struct Uncompiled;
 
-/// Why a rule has no nodes on a text.
+/// The reason why a rule has no nodes on a text.
 #[derive(Clone, Copy, Debug, PartialEq, Eq)]
 pub enum Unmatched {
-    /// The rule fails: the furthest position of a failure, in bytes.
+    /// The rule fails.
     Failed {
-        /// The position, in bytes.
+        /// The furthest position of a failure, in bytes.
         pos: usize,
     },
     /// The bytes are no block of this version of the library.
     NoBlock,
-    /// The block has no rule of that row.
+    /// The block has no rule with that index.
     NoRule,
-    /// The rule takes more steps than it may.
+    /// The rule takes more steps than the limit.
     OutOfSteps,
-    /// `PEEK` or `POP` met the empty stack.
+    /// `PEEK` or `POP` came to the empty stack, so the rule has no outcome.
     EmptyStack,
     /// The text has 4 GiB or more.
     TooLong,
@@ -41,10 +41,10 @@ pub enum Unmatched {
 /// Compiles optimized rules in binary form to a block.
 ///
 /// # Errors
-/// The rules can't be run.
+/// [`Uncompiled`] if the rules cannot be run.
 ///
 /// # Panics
-/// Where the library has no memory, and where the bytes are no rules in binary form.
+/// If an allocation fails, or if the bytes are no rules in binary form.
 pub fn compile_rules(rules: &[u8]) -> Result<Vec<u8>, Uncompiled> {
     let mut block = Given::new();
     match foreign::compile_prepared(rules, &mut block) {
@@ -54,26 +54,26 @@ pub fn compile_rules(rules: &[u8]) -> Result<Vec<u8>, Uncompiled> {
     }
 }
 
-/// The steps of a run without a limit of its caller.
+/// This number of steps means that a run has no limit.
 pub const NO_LIMIT: u64 = u64::MAX;
 
-/// The most steps in which the rules of an error are looked for, if its caller names no limit: 2^23, and 32 more for each
-/// byte.
+/// Returns the greatest number of steps of the search for the rules of an error, if the caller gives no limit: 2^23,
+/// and 32 more for each byte of `text`.
 pub fn error_steps(text: &str) -> u64 {
     (text.len() as u64).saturating_mul(32).saturating_add(1 << 23)
 }
 
-/// Runs the rule of a row from the start of a text.
+/// Runs the rule with the index `row` from the start of `text`, by runs of at most `steps` steps.
 ///
-/// By [`NO_LIMIT`] the rule runs until it has an outcome. If it uses no stack, its time is linear in the text and the nodes.
-/// A rule that uses the stack, as by `PUSH` and `PEEK`, may take exponential time. By another number of steps, the rule is
-/// stopped after so many.
+/// If `steps` is [`NO_LIMIT`], the run has no limit. If the rule uses no stack, the turns of the run are linear in the
+/// bytes of the text and in the nodes. If it uses the stack, by `PUSH`, `PEEK` and the like, it may take exponential
+/// time.
 ///
 /// # Errors
-/// The rule fails, or is stopped, or there is none.
+/// [`Unmatched`] if the rule fails, if it is stopped, or if the block has no such rule.
 ///
 /// # Panics
-/// Where the library has no memory.
+/// If an allocation fails.
 pub fn run(block: &[u8], row: u32, text: &str, steps: u64) -> Result<Nodes, Unmatched> {
     let (mut nodes, mut end) = (Given::new(), 0);
     match foreign::run(block, row, text, steps, &mut nodes, &mut end) {
@@ -88,11 +88,11 @@ pub fn run(block: &[u8], row: u32, text: &str, steps: u64) -> Result<Nodes, Unma
     }
 }
 
-/// The rows of the rules that could have let a run get further than a position at which [`run`] fails, in the order in
-/// which they are first called there. Nothing is known of them where the run takes more steps than so many.
+/// Returns the indexes of the rules that are expected at the byte `pos`, at which [`run`] fails, in the order in which
+/// they are first called there. Returns `None` if the search takes more than `steps` steps.
 ///
 /// # Panics
-/// Where the library has no memory.
+/// If an allocation fails.
 pub fn expected(block: &[u8], row: u32, text: &str, pos: usize, steps: u64) -> Option<Vec<u32>> {
     let mut rows = Given::new();
     match foreign::expected(block, row, text, pos, steps, &mut rows) {
@@ -102,22 +102,23 @@ pub fn expected(block: &[u8], row: u32, text: &str, pos: usize, steps: u64) -> O
     }
 }
 
-/// The rules that an error of pest names, and its place.
+/// The rules that an error of pest names, and the position of that error.
 #[derive(Debug)]
 pub struct Attempts {
-    /// The place, in bytes.
+    /// The position of the error, in bytes.
     pub pos: usize,
-    /// The rows of the rules that are expected there, in the order of their calls, and some several times.
+    /// The indexes of the rules that are expected there, in the order of their calls. A rule may be there several
+    /// times.
     pub positives: Given<u32>,
-    /// The rows of the rules that are not expected there.
+    /// The indexes of the rules that are not expected there.
     pub negatives: Given<u32>,
 }
 
-/// The rules that an error of pest names where [`run`] fails at a position, in so many steps at most. There are none
-/// where they take more steps than that, or more memory than the library gives them.
+/// Returns the rules that an error of pest names if [`run`] fails at the byte `pos`, by runs of at most `steps` steps.
+/// Returns `None` if they take more steps, or if an allocation fails.
 ///
 /// # Panics
-/// Where the library breaks its word.
+/// If the library returns a status that the call does not have.
 pub fn attempts(block: &[u8], row: u32, text: &str, pos: usize, steps: u64) -> Option<Attempts> {
     let mut found = Attempts { pos, positives: Given::new(), negatives: Given::new() };
     let Attempts { pos, positives, negatives } = &mut found;
@@ -131,7 +132,7 @@ pub fn attempts(block: &[u8], row: u32, text: &str, pos: usize, steps: u64) -> O
 /// Ends a call that has no answer.
 ///
 /// # Panics
-/// Always: where the library has no memory, and where it breaks its word.
+/// Always, with the reason: an allocation failed, or the library returned a status that the call does not have.
 fn no_answer(status: u8) -> ! {
     match status {
         2 => panic!("the proved library has no memory"),

@@ -1,8 +1,8 @@
-//! The functions of the proved static library. All `unsafe` code of the crates for Rust stands here.
+//! The functions of the proved static library. All `unsafe` code of the crates for Rust is here.
 //!
-//! A function is handed texts and room for its answer, as a pointer and a length each, and keeps none of
-//! them. It answers a status, and leaves in `needed` how many bytes it wrote or, where the room was too
-//! small, wants to write. The calls over blocks hand out memory of their own, which `pest_meta_free` frees.
+//! A function gets texts and a buffer for its result, each as a pointer and a length, and keeps none of them. It
+//! returns a status. It sets `needed` to the number of bytes that it wrote, or that it needs if the buffer is too
+//! small. The calls on blocks return memory that the caller owns, and that `pest_meta_free` frees.
 use alloc::boxed::Box;
 use alloc::vec::Vec;
 use core::ffi::c_void;
@@ -11,14 +11,14 @@ use core::{fmt, ptr, slice};
 
 use crate::{Call, Node};
 
-/// A list as C has it: where it lies, and how long it is.
+/// A list of C: its address and its length.
 #[repr(C)]
 struct Lent<T> {
     at: *const T,
     count: usize,
 }
 
-/// A list in memory that the library handed out, or that was a box. It is freed when this is dropped.
+/// A list in memory that the library returned, or that was a box. It is freed when this value is dropped.
 pub struct Given<T> {
     lent: Lent<T>,
     /// Whether the memory is that of a box, which has no other owner.
@@ -201,7 +201,7 @@ pub fn tokens(text: &str, rule: &str, out: &mut [u8], needed: &mut usize) -> u8 
     }
 }
 
-/// The same entries as numbers; nothing is written where there is an error.
+/// Writes the same entries as numbers. If there is an error, nothing is written.
 pub fn token_numbers(text: &str, rule: &str, out: &mut [usize], needed: &mut usize) -> u8 {
     // SAFETY: as above.
     unsafe {
@@ -224,8 +224,8 @@ pub fn compile_prepared(rules: &[u8], block: &mut Given<u8>) -> u8 {
     unsafe { pest_meta_compile_prepared(rules.as_ptr(), rules.len(), &mut block.lent) }
 }
 
-/// Runs the rule of a row from the start of a text: the nodes and the end of a match, or the furthest position of a
-/// failure.
+/// Runs the rule with the index `rule` from the start of `text`. Returns the nodes and the end of a match, or the
+/// furthest position of a failure.
 pub fn run(block: &[u8], rule: u32, text: &str, steps: u64, nodes: &mut Given<Node>, end: &mut usize) -> u8 {
     *nodes = Given::new();
     // SAFETY: as above.
@@ -244,7 +244,7 @@ pub fn run(block: &[u8], rule: u32, text: &str, steps: u64, nodes: &mut Given<No
     }
 }
 
-/// The rows of the rules that are expected at a position, where a rule is run as by [`run`].
+/// Finds the indexes of the rules that are expected at the byte `place` in a run as by [`run`].
 pub fn expected(block: &[u8], rule: u32, text: &str, place: usize, steps: u64, rows: &mut Given<u32>) -> u8 {
     *rows = Given::new();
     // SAFETY: as above.
@@ -263,8 +263,8 @@ pub fn expected(block: &[u8], rule: u32, text: &str, place: usize, steps: u64, r
     }
 }
 
-/// The rows of the rules that an error of pest names, expected and not, where a rule is run as by [`run`], and the place
-/// of that error. `place` is asked first.
+/// Finds the indexes of the rules that an error of pest names in a run as by [`run`], expected and not, and the
+/// position of that error. `place` is the first position to try.
 pub fn attempts(
     block: &[u8],
     rule: u32,

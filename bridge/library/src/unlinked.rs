@@ -19,6 +19,12 @@ impl<T> Given<T> {
     }
 }
 
+impl<T> Default for Given<T> {
+    fn default() -> Self {
+        Given::new()
+    }
+}
+
 impl<T> From<Vec<T>> for Given<T> {
     fn from(list: Vec<T>) -> Self {
         Given(list.into())

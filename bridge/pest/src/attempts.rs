@@ -16,8 +16,8 @@ const MANY: usize = 4;
 
 static IS_DETAILED: AtomicBool = AtomicBool::new(false);
 
-/// Sets whether parsers keep what they tried, for [`Error::parse_attempts`](crate::error::Error::parse_attempts). That takes
-/// time: a parser by hand keeps it in each parse, and for a parser of a grammar its rules run once more if it fails.
+/// Sets whether parsers keep what they tried, for [`Error::parse_attempts`](crate::error::Error::parse_attempts). That
+/// takes time. A parser by hand keeps it in each parse. If a parser of a grammar fails, its rules run once more.
 pub fn set_error_detail(enabled: bool) {
     IS_DETAILED.store(enabled, Ordering::Relaxed);
 }
@@ -27,7 +27,7 @@ pub(crate) fn is_detailed() -> bool {
     IS_DETAILED.load(Ordering::Relaxed)
 }
 
-/// What failed at a position.
+/// A rule or a token that failed at a position.
 #[derive(Clone, Debug, Eq, Hash, Ord, PartialEq, PartialOrd)]
 pub enum ParseAttempt<R> {
     /// A rule.
@@ -85,7 +85,7 @@ pub enum ParsingToken {
         /// The last character.
         end: char,
     },
-    /// A character that a function takes.
+    /// A character that a function accepts.
     BuiltInRule,
 }
 
@@ -125,7 +125,7 @@ pub struct ParseAttempts<R> {
 }
 
 impl<R: RuleType> ParseAttempts<R> {
-    /// Makes attempts that have nothing yet. They are kept as [`set_error_detail`] says at this time.
+    /// Makes empty attempts. Whether something is kept is what [`set_error_detail`] has set at this time.
     pub fn new() -> ParseAttempts<R> {
         ParseAttempts {
             is_enabled: is_detailed(),
@@ -136,12 +136,12 @@ impl<R: RuleType> ParseAttempts<R> {
         }
     }
 
-    /// Returns the tokens that would have let the parser go on, each once, in order.
+    /// Returns the tokens that would have let the parser continue, each once, in order.
     pub fn expected_tokens(&self) -> Vec<ParsingToken> {
         each_once(&self.expected)
     }
 
-    /// Returns the tokens that were there and may not be, each once, in order.
+    /// Returns the tokens that were there and are not allowed, each once, in order.
     pub fn unexpected_tokens(&self) -> Vec<ParsingToken> {
         each_once(&self.unexpected)
     }

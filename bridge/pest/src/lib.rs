@@ -1,18 +1,19 @@
 //! The runtime of [pest](https://pest.rs) over a proved matcher.
 //!
-//! Parsers are made by the derive macro of the crate `kingorewa_pest_derive`; names, types and printed texts are
-//! those of pest 2.9. The README says how to build with both, and where they differ.
+//! Parsers are made by the derive macro of the crate `kingorewa_pest_derive`. Names, types and printed texts are those
+//! of pest 2.9. The README says how to move a program to both, and lists the differences.
 //!
 //! # What is proved
 //!
-//! The library runs a grammar's rules on a text. Its answer, the tokens of a match or the furthest position of a
-//! failure with the rules expected there, is proved to be that of the grammar. This crate makes pairs and errors of
-//! it, which is tested, and has parsers by hand ([`ParserState`]), which are Rust alone.
+//! The library runs the rules of a grammar on a text. Its result is proved to be that of the grammar: the tokens of a
+//! match, or the furthest position of a failure with the rules that are expected there. This crate makes pairs and
+//! errors from the result, which is tested. It also has parsers by hand ([`ParserState`]), which are Rust code alone.
 //!
 //! # Trees
 //!
-//! The trees of a text are one list of nodes, each before what is inside it. A [`Pair`](iterators::Pair) is the
-//! index of a node. So no tree is built, and nothing here takes stack by the depth of trees, printing included.
+//! The trees of a text are one list of nodes. Each is before the nodes inside it. A [`Pair`](iterators::Pair) is the
+//! index of a node. So no tree is built, and the depth of trees takes no stack of the process, also when they are
+//! printed.
 #![no_std]
 #![forbid(unsafe_code)]
 #![warn(missing_docs, rust_2018_idioms, unused_qualifications)]
@@ -55,14 +56,14 @@ pub use span::{merge_spans, Lines, LinesSpan, Span};
 pub use stack::Stack;
 pub use token::Token;
 
-/// What the macros need of the crate alloc, which a program may not name.
+/// The items of the crate alloc that the macros need. A program may not have a name for that crate.
 #[doc(hidden)]
 pub mod macros_need {
     pub use alloc::format;
     pub use alloc::vec::Vec;
 }
 
-/// What a type of rules has to be. Each type that has these traits is one.
+/// The traits of a type of rules. Each type that has these traits is one.
 pub trait RuleType: Copy + Debug + Eq + Hash + Ord {}
 
 impl<T: Copy + Debug + Eq + Hash + Ord> RuleType for T {}

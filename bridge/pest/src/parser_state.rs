@@ -1,4 +1,4 @@
-//! Parsers by hand: functions that take a state and return it, moved on or failed.
+//! Parsers by hand: functions that take a state and return it, after a match or a failure.
 
 use alloc::borrow::{Cow, ToOwned};
 use alloc::boxed::Box;
@@ -18,15 +18,15 @@ use crate::{Position, RuleType};
 /// Whether a state is inside a predicate.
 #[derive(Clone, Copy, Debug, Eq, PartialEq)]
 pub enum Lookahead {
-    /// In `&`, or in a `!` in another.
+    /// Inside `&`, or inside a `!` in another `!`.
     Positive,
-    /// In `!`.
+    /// Inside `!`.
     Negative,
-    /// In none.
+    /// Inside no predicate.
     None,
 }
 
-/// How a rule treats what is between its parts, and the rules in it.
+/// Whether implicit whitespace is skipped in a rule, and whether the rules inside it make pairs.
 #[derive(Clone, Copy, Debug, Eq, PartialEq)]
 pub enum Atomicity {
     /// Nothing is skipped, and rules inside make no pairs.
@@ -40,20 +40,20 @@ pub enum Atomicity {
 /// A state that matched, or one that failed.
 pub type ParseResult<S> = Result<S, S>;
 
-/// In which order entries of the stack are matched.
+/// The order in which entries of the stack are matched.
 #[derive(Clone, Copy, Debug, Eq, PartialEq)]
 pub enum MatchDir {
-    /// The first that was pushed first.
+    /// The entry that was pushed first is the first one.
     BottomToTop,
-    /// The last that was pushed first.
+    /// The entry that was pushed last is the first one.
     TopToBottom,
 }
 
 /// The limit of calls; 0 if there is none.
 static CALL_LIMIT: AtomicUsize = AtomicUsize::new(0);
 
-/// Sets how many calls a parser may make, for all parsers of the program. One that comes to the limit fails with the error
-/// "call limit reached".
+/// Sets the greatest number of calls of a parser, for all parsers of the program. A parser that comes to the limit
+/// fails with the error "call limit reached".
 ///
 /// The calls of a parser by hand are those of its state that take a function. For a parser of a grammar a call counts as
 /// [`STEPS_OF_A_CALL`] steps of the machine.
@@ -61,7 +61,7 @@ pub fn set_call_limit(limit: Option<NonZeroUsize>) {
     CALL_LIMIT.store(limit.map_or(0, NonZeroUsize::get), Ordering::Relaxed);
 }
 
-/// How many steps of the machine count as a call, of which [`set_call_limit`] sets a limit. They take about as long.
+/// The number of steps of the machine that count as one call for [`set_call_limit`]. They take about as long as a call.
 pub const STEPS_OF_A_CALL: u64 = 16;
 
 /// The limit of [`set_call_limit`].
@@ -69,7 +69,7 @@ pub(crate) fn call_limit() -> Option<usize> {
     NonZeroUsize::new(CALL_LIMIT.load(Ordering::Relaxed)).map(NonZeroUsize::get)
 }
 
-/// What an error says of a parser that came to the limit.
+/// The message of an error of a parser that came to the limit.
 pub(crate) const LIMIT_REACHED: &str = "call limit reached";
 
 /// A bound of a pair.
@@ -117,7 +117,7 @@ impl<R: RuleType> Failures<R> {
     }
 }
 
-/// The state of a parser by hand: where it is in the text, the pairs that it made, and its stack.
+/// The state of a parser by hand: its position in the text, the pairs that it made, and its stack.
 ///
 /// ```
 /// use pest::{state, Atomicity, ParseResult, ParserState};
@@ -149,10 +149,13 @@ pub struct ParserState<'i, R: RuleType> {
     calls: Option<usize>,
 }
 
-/// Runs a parser by hand on a text. Returns its pairs, or an error at the furthest position where a rule failed.
+/// Runs a parser by hand on a text. Returns its pairs.
+///
+/// # Errors
+/// An error at the furthest position at which a rule failed, if the parser fails.
 ///
 /// # Panics
-/// Where the text has 4 GiB or more.
+/// If the text has 4 GiB or more.
 pub fn state<'i, R: RuleType, F>(input: &'i str, f: F) -> Result<Pairs<'i, R>, Error<R>>
 where
     F: FnOnce(Box<ParserState<'i, R>>) -> ParseResult<Box<ParserState<'i, R>>>,
@@ -224,12 +227,13 @@ impl<'i, R: RuleType> ParserState<'i, R> {
         })
     }
 
-    /// Returns what was tried at the furthest position, as far as [`set_error_detail`](crate::set_error_detail) has it kept.
+    /// Returns what was tried at the furthest position. There is something only after
+    /// [`set_error_detail`](crate::set_error_detail).
     pub fn get_parse_attempts(&self) -> &ParseAttempts<R> {
         &self.attempts
     }
 
-    /// Returns where the state is.
+    /// Returns the position of the state.
     pub fn position(&self) -> &Position<'i> {
         &self.position
     }
@@ -273,7 +277,7 @@ impl<'i, R: RuleType> ParserState<'i, R> {
         self.lookahead == Lookahead::None && self.atomicity != Atomicity::Atomic
     }
 
-    /// Makes a pair of the rule around what a function matches, and names the rule in an error where that fails.
+    /// Makes a pair of the rule from what the function matches. If the function fails, an error names the rule.
     pub fn rule<F>(self: Box<Self>, rule: R, f: F) -> ParseResult<Box<Self>>
     where
         F: FnOnce(Box<Self>) -> ParseResult<Box<Self>>,
@@ -319,7 +323,7 @@ impl<'i, R: RuleType> ParserState<'i, R> {
         self.bounds.push(Bound::End { rule, tag: None, pos });
     }
 
-    /// Gives a tag to the pair that ended last, if nothing began since.
+    /// Gives a tag to the pair that ended last, if no pair has begun since.
     pub fn tag_node(mut self: Box<Self>, tag: &'i str) -> ParseResult<Box<Self>> {
         if self.lookahead == Lookahead::None {
             if let Some(Bound::End { tag: old, .. }) = self.bounds.last_mut() {
@@ -329,7 +333,7 @@ impl<'i, R: RuleType> ParserState<'i, R> {
         Ok(self)
     }
 
-    /// Matches what a function matches; where that fails, the state is as before.
+    /// Matches what the function matches. If the function fails, the state is as before.
     pub fn sequence<F>(self: Box<Self>, f: F) -> ParseResult<Box<Self>>
     where
         F: FnOnce(Box<Self>) -> ParseResult<Box<Self>>,
@@ -343,7 +347,7 @@ impl<'i, R: RuleType> ParserState<'i, R> {
         })
     }
 
-    /// Matches what a function matches, as often as it does.
+    /// Repeats the function as long as it matches.
     pub fn repeat<F>(self: Box<Self>, mut f: F) -> ParseResult<Box<Self>>
     where
         F: FnMut(Box<Self>) -> ParseResult<Box<Self>>,
@@ -357,7 +361,7 @@ impl<'i, R: RuleType> ParserState<'i, R> {
         }
     }
 
-    /// Matches what a function matches, or nothing.
+    /// Matches what the function matches, or nothing.
     pub fn optional<F>(self: Box<Self>, f: F) -> ParseResult<Box<Self>>
     where
         F: FnOnce(Box<Self>) -> ParseResult<Box<Self>>,
@@ -383,7 +387,7 @@ impl<'i, R: RuleType> ParserState<'i, R> {
         }
     }
 
-    /// Matches a character that a function takes.
+    /// Matches a character that the function accepts.
     pub fn match_char_by<F>(mut self: Box<Self>, f: F) -> ParseResult<Box<Self>>
     where
         F: FnOnce(char) -> bool,
@@ -415,7 +419,7 @@ impl<'i, R: RuleType> ParserState<'i, R> {
         self.with_token(start, is_match, || ParsingToken::Range { start: range.start, end: range.end })
     }
 
-    /// Matches so many characters.
+    /// Matches `n` characters.
     pub fn skip(mut self: Box<Self>, n: usize) -> ParseResult<Box<Self>> {
         if self.position.skip(n) {
             Ok(self)
@@ -424,13 +428,13 @@ impl<'i, R: RuleType> ParserState<'i, R> {
         }
     }
 
-    /// Moves on to the first place of one of some texts, or to the end.
+    /// Moves the state to the next position at which one of the texts begins, or to the end.
     pub fn skip_until(mut self: Box<Self>, strings: &[&str]) -> ParseResult<Box<Self>> {
         self.position.skip_until(strings);
         Ok(self)
     }
 
-    /// Matches nothing, at the start of the text.
+    /// Succeeds at the start of the text, and matches nothing.
     pub fn start_of_input(self: Box<Self>) -> ParseResult<Box<Self>> {
         if self.position.pos() == 0 {
             Ok(self)
@@ -439,7 +443,7 @@ impl<'i, R: RuleType> ParserState<'i, R> {
         }
     }
 
-    /// Matches nothing, at the end of the text.
+    /// Succeeds at the end of the text, and matches nothing.
     pub fn end_of_input(self: Box<Self>) -> ParseResult<Box<Self>> {
         if self.position.is_at_end() {
             Ok(self)
@@ -448,7 +452,8 @@ impl<'i, R: RuleType> ParserState<'i, R> {
         }
     }
 
-    /// Matches nothing where a function matches, or where it does not if `is_positive` is false. The stack is as before.
+    /// Succeeds and matches nothing, if the function matches. If `is_positive` is false, it succeeds if the function
+    /// fails. The stack is as before.
     pub fn lookahead<F>(self: Box<Self>, is_positive: bool, f: F) -> ParseResult<Box<Self>>
     where
         F: FnOnce(Box<Self>) -> ParseResult<Box<Self>>,
@@ -476,7 +481,7 @@ impl<'i, R: RuleType> ParserState<'i, R> {
         }
     }
 
-    /// Runs a function in a mode.
+    /// Runs the function in a mode.
     pub fn atomic<F>(self: Box<Self>, atomicity: Atomicity, f: F) -> ParseResult<Box<Self>>
     where
         F: FnOnce(Box<Self>) -> ParseResult<Box<Self>>,
@@ -490,7 +495,7 @@ impl<'i, R: RuleType> ParserState<'i, R> {
         f(state).map(back).map_err(back)
     }
 
-    /// Pushes the text that a function matches on the stack.
+    /// Pushes the text that the function matches on the stack.
     pub fn stack_push<F>(self: Box<Self>, f: F) -> ParseResult<Box<Self>>
     where
         F: FnOnce(Box<Self>) -> ParseResult<Box<Self>>,
@@ -515,7 +520,7 @@ impl<'i, R: RuleType> ParserState<'i, R> {
     /// Matches the text on top of the stack.
     ///
     /// # Panics
-    /// Where the stack is empty.
+    /// If the stack is empty.
     pub fn stack_peek(self: Box<Self>) -> ParseResult<Box<Self>> {
         let text = self.stack.peek().expect("peek was called on empty stack").clone();
         self.match_string(&text)

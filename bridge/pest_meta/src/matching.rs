@@ -1,5 +1,5 @@
-//! Optimized rules compiled for the proved matcher, for the crates pest_vm and kingorewa_pest_derive. No part of the
-//! original's interface.
+//! Compiles optimized rules for the proved matcher, for the crates pest_vm and kingorewa_pest_derive. This module is no
+//! part of the original's interface.
 
 use std::collections::{BTreeSet, HashMap};
 use std::mem;
@@ -15,10 +15,11 @@ use crate::optimizer::{OptimizedExpr, OptimizedRule};
 /// Compiles optimized rules to a block of bytes that the library runs on texts.
 ///
 /// # Errors
-/// The rules call a name that is neither a rule nor a builtin, or have a range with a bound that is no character.
+/// [`Uncompiled`] if the rules call a name that is neither a rule nor a builtin, or have a range with a bound that is
+/// not one character.
 ///
 /// # Panics
-/// Where the library has no memory.
+/// If an allocation fails.
 pub fn compile(rules: &[OptimizedRule]) -> Result<Vec<u8>, Uncompiled> {
     let rows = rules.iter().map(|rule| (&rule.name, rule.ty, flat(&rule.expr)));
     code::compile_rules(&binary::write_rules(rows))
@@ -45,7 +46,7 @@ pub fn source(rules: &[OptimizedRule], added: &[OptimizedRule]) -> Vec<u8> {
     bytes
 }
 
-/// The names that rules call and that are neither rules nor builtins, each once.
+/// Returns the names that rules call and that are neither rules nor builtins, each once.
 pub fn undefined_names(rules: &[OptimizedRule]) -> Vec<String> {
     let called: BTreeSet<String> = rules.iter().flat_map(|rule| called_names(&rule.expr)).collect();
     let is_undefined = |name: &String| {
@@ -56,12 +57,13 @@ pub fn undefined_names(rules: &[OptimizedRule]) -> Vec<String> {
     called.into_iter().filter(is_undefined).collect()
 }
 
-/// A rule of that name that matches nothing and makes no pair.
+/// Returns a rule named `name` that matches nothing and makes no pair.
 pub fn empty_rule(name: String) -> OptimizedRule {
     OptimizedRule { name, ty: RuleType::Silent, expr: OptimizedExpr::Str(String::new()) }
 }
 
-/// A rule for a property of characters that the crate `pest` knows: one of its ranges, and no pair.
+/// Returns a rule for a property of characters that the crate `pest` knows. It matches a character of one of the
+/// ranges, and makes no pair.
 pub fn property_rule(name: &str) -> Option<OptimizedRule> {
     let ranges = property_ranges(name)?.into_iter();
     let ranges = ranges.map(|(start, end)| OptimizedExpr::Range(start.to_string(), end.to_string()));
@@ -108,7 +110,8 @@ fn property_ranges(name: &str) -> Option<Vec<(char, char)>> {
     Some(ranges)
 }
 
-/// The rules from which calls lead to one that is not among the first so many: the index of each, with that name.
+/// Returns the rules from which calls lead to a rule that is not among the first `count`: the index of each, with the
+/// name of that rule.
 pub fn rules_that_reach(rules: &[OptimizedRule], count: usize) -> HashMap<usize, String> {
     let mut callers: HashMap<String, Vec<usize>> = HashMap::new();
     for (at, rule) in rules.iter().enumerate() {
@@ -137,21 +140,21 @@ fn called_names(expr: &OptimizedExpr) -> impl Iterator<Item = String> {
 pub struct TaggedBlock {
     /// The block.
     pub block: Vec<u8>,
-    /// The tag of each of these rules, whose rows are after those of the grammar.
+    /// The tag of each of these rules. Their indexes are after those of the grammar.
     pub tags: Vec<String>,
 }
 
-/// Compiles optimized rules with their tags, if they have any. Each tagged expression becomes the body of one more rule, whose
-/// match shows where it ends.
+/// Compiles optimized rules with their tags, if they have any. Each tagged expression becomes the body of one more
+/// rule. The match of that rule shows the end of the expression.
 ///
-/// In parsers that pest_generator makes, a tag on `e?` or `e*` is one on each `e`; in the crate pest_vm it is on the last pair
-/// of all. `is_on_each` says which is wanted.
+/// In parsers that pest_generator makes, a tag on `e?` or `e*` is on each `e`. In the crate pest_vm it is on the last
+/// pair of all. `is_on_each` says which of the two is wanted.
 ///
 /// # Errors
-/// As of [`compile`].
+/// Those of [`compile`].
 ///
 /// # Panics
-/// Where the library has no memory.
+/// If an allocation fails.
 pub fn compile_tagged(rules: &[OptimizedRule], is_on_each: bool) -> Result<Option<TaggedBlock>, Uncompiled> {
     let mut tagged = Tagged { tags: Vec::new(), bodies: Vec::new() };
     let body = |rule: &OptimizedRule| match is_on_each {

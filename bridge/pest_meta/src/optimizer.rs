@@ -1,4 +1,4 @@
-//! Optimized rules, as a code generator wants them.
+//! Optimized rules, from which a code generator makes a parser.
 
 use std::fmt;
 
@@ -9,11 +9,11 @@ use crate::json::{write_list, write_text, Malformed, Reading};
 use crate::nodes::{self, flat, tree, Node, Operands, Tree};
 use crate::printing::{spelled, BareSide};
 
-/// Rules optimized by the proved passes.
+/// Optimizes rules by the proved passes.
 ///
 /// # Panics
-/// Where there is no memory for what the rules are written out to, and where the library is of a release whose
-/// rules this crate does not know.
+/// If there is no memory for the optimized rules, or if the library is of a release whose rules this crate
+/// does not know.
 pub fn optimize(rules: Vec<Rule>) -> Vec<OptimizedRule> {
     let bytes = binary::write_rules(rules.iter().map(|rule| (&rule.name[..], rule.ty, flat(&rule.expr))));
     let json = || {
@@ -44,11 +44,11 @@ fn write_rule(out: &mut String, name: &str, ty: RuleType, body: &[Node]) {
 /// An optimized rule.
 #[derive(Clone, Debug, Eq, PartialEq)]
 pub struct OptimizedRule {
-    /// Its name.
+    /// The name of the rule.
     pub name: String,
-    /// What kind of rule it is.
+    /// The type of the rule.
     pub ty: RuleType,
-    /// Its body.
+    /// The body of the rule.
     pub expr: OptimizedExpr,
 }
 
@@ -67,54 +67,54 @@ impl TryFrom<FlatRule> for OptimizedRule {
 /// An optimized expression.
 #[derive(Clone, Debug, Eq, PartialEq)]
 pub enum OptimizedExpr {
-    /// That text: `"a"`.
+    /// Matches that text: `"a"`.
     Str(String),
-    /// That text, with ASCII letters of either case: `^"a"`.
+    /// Matches that text, with ASCII letters of either case: `^"a"`.
     Insens(String),
-    /// A character of the range: `'a'..'z'`.
+    /// Matches a character of the range: `'a'..'z'`.
     Range(String, String),
-    /// The rule or the builtin of that name: `a`.
+    /// Calls the rule or the builtin with that name: `a`.
     Ident(String),
-    /// Entries of the stack: `PEEK[0..-1]`, or `PEEK[0..]`.
+    /// Matches entries of the stack: `PEEK[0..-1]`, or `PEEK[0..]`.
     PeekSlice(i32, Option<i32>),
-    /// What comes has to match: `&e`.
+    /// Succeeds if the expression matches, and consumes nothing: `&e`.
     PosPred(Box<OptimizedExpr>),
-    /// What comes may not match: `!e`.
+    /// Succeeds if the expression does not match, and consumes nothing: `!e`.
     NegPred(Box<OptimizedExpr>),
-    /// One and then the other: `a ~ b`.
+    /// Matches one expression and then the other: `a ~ b`.
     Seq(Box<OptimizedExpr>, Box<OptimizedExpr>),
-    /// One or, where it fails, the other: `a | b`.
+    /// Matches one expression, or the other one if the first fails: `a | b`.
     Choice(Box<OptimizedExpr>, Box<OptimizedExpr>),
-    /// Once or not at all: `e?`.
+    /// Matches the expression or nothing: `e?`.
     Opt(Box<OptimizedExpr>),
-    /// As often as it matches: `e*`.
+    /// Repeats the expression as long as it matches: `e*`.
     Rep(Box<OptimizedExpr>),
-    /// As often as it matches, and once at least: `e+`.
+    /// Repeats the expression as long as it matches, at least once: `e+`.
     #[cfg(feature = "grammar-extras")]
     RepOnce(Box<OptimizedExpr>),
-    /// All up to one of the texts: `(!("a" | "b") ~ ANY)*`.
+    /// Consumes all characters before one of the texts: `(!("a" | "b") ~ ANY)*`.
     Skip(Vec<String>),
-    /// What matches is pushed on the stack: `PUSH(e)`.
+    /// Pushes the text that the expression matches on the stack: `PUSH(e)`.
     Push(Box<OptimizedExpr>),
-    /// The text is pushed on the stack: `PUSH_LITERAL("a")`.
+    /// Pushes the text on the stack: `PUSH_LITERAL("a")`.
     #[cfg(feature = "grammar-extras")]
     PushLiteral(String),
     /// An expression with a tag: `#tag = e`.
     #[cfg(feature = "grammar-extras")]
     NodeTag(Box<OptimizedExpr>, String),
-    /// The expression; where it fails, the stack is as it was before.
+    /// Matches the expression. If it fails, the stack is as it was before.
     RestoreOnErr(Box<OptimizedExpr>),
 }
 
 impl OptimizedExpr {
-    /// The expression and all that stands in it, each before what stands in it, the left side before the
-    /// right. What stands in a [`OptimizedExpr::RestoreOnErr`] is not met.
+    /// Returns the expression and all expressions inside it, each before those inside it, and the left side
+    /// before the right one. Expressions inside a [`OptimizedExpr::RestoreOnErr`] are left out.
     pub fn iter_top_down(&self) -> OptimizedExprTopDownIterator {
         OptimizedExprTopDownIterator::new(self)
     }
 
-    /// The expression with `f` done at it, then at each operand of its answer, and so on down. What stands
-    /// in a [`OptimizedExpr::RestoreOnErr`] stays.
+    /// Applies `f` to the expression, then to each operand of the result, and so on down. Expressions inside
+    /// a [`OptimizedExpr::RestoreOnErr`] are not changed.
     pub fn map_top_down<F>(self, mut f: F) -> OptimizedExpr
     where
         F: FnMut(OptimizedExpr) -> OptimizedExpr,
@@ -125,8 +125,8 @@ impl OptimizedExpr {
         go(self, &mut f)
     }
 
-    /// The expression with `f` done at what stands in each node, and then at the node with what that gives.
-    /// What stands in a [`OptimizedExpr::RestoreOnErr`] stays.
+    /// Applies `f` from the leaves up: to the operands of each expression, and then to the expression with
+    /// the results. Expressions inside a [`OptimizedExpr::RestoreOnErr`] are not changed.
     pub fn map_bottom_up<F>(self, mut f: F) -> OptimizedExpr
     where
         F: FnMut(OptimizedExpr) -> OptimizedExpr,
@@ -220,21 +220,22 @@ impl Tree for OptimizedExpr {
     }
 }
 
-/// The expression as the text of a grammar; a [`OptimizedExpr::RestoreOnErr`] is written as what it is over.
+/// Prints the expression as the text of a grammar. A [`OptimizedExpr::RestoreOnErr`] is printed as its
+/// operand.
 impl fmt::Display for OptimizedExpr {
     fn fmt(&self, f: &mut fmt::Formatter<'_>) -> fmt::Result {
         f.write_str(&spelled(&flat(self), BareSide::Right))
     }
 }
 
-/// What [`OptimizedExpr::iter_top_down`] goes through.
+/// The iterator that [`OptimizedExpr::iter_top_down`] returns.
 pub struct OptimizedExprTopDownIterator {
     /// Those whose turn is still to come, with what stands in them. The last comes first.
     left: Vec<OptimizedExpr>,
 }
 
 impl OptimizedExprTopDownIterator {
-    /// The expression and all that stands in it.
+    /// Makes an iterator over the expression and all expressions inside it.
     pub fn new(expr: &OptimizedExpr) -> Self {
         OptimizedExprTopDownIterator { left: vec![expr.clone()] }
     }

@@ -1,7 +1,7 @@
 //! The crate `pest_vm` over a proved matcher.
 //!
-//! A [`Vm`] runs a grammar's optimized rules on texts, without generated code: so a program can take grammars at
-//! run time. The pairs are those of the crate `kingorewa_pest`, which has pest's interface, over names of rules.
+//! A [`Vm`] runs the optimized rules of a grammar on texts, without generated code. So a program can get grammars at
+//! run time. The pairs are those of the crate `kingorewa_pest`, which has pest's interface. Their rules are names.
 //!
 //! ```
 //! let grammar = r#"list = { "[" ~ (item ~ ("," ~ item)*)? ~ "]" } item = @{ ASCII_ALPHA+ }"#;
@@ -13,25 +13,25 @@
 //!
 //! # What is proved
 //!
-//! The tokens that the library answers are those of the definitions that the front end's promises are about, and
-//! so are the place of an error and the rules that it names. This crate hands rules and texts over, and its pairs
-//! are views of the answer; that is tested.
+//! The tokens that the library returns are proved to be those of the definitions (docs/SPEC.md). So are the position of
+//! an error, and the rules that it names. This crate passes rules and texts to the library, and its pairs are views of
+//! the result. That is tested.
 //!
 //! # Differences
 //!
 //! | The original | Here |
 //! |---|---|
-//! | `PEEK` or `POP` on the empty stack panics | an error at the start of the text |
-//! | a rule takes any time, unless `pest::set_call_limit` was called | a rule that uses the stack does; any other takes time that is linear in the text and the pairs |
-//! | an error names its rules after any time | where 2^23 steps, and 32 more for each byte, do not find them, it says so at the furthest position of a failure |
-//! | the listener is called at each call of a rule | at each token of a match, in the order of their starts |
-//! | a builtin can be parsed as a rule | another name than a rule's panics, as an undefined rule does there |
-//! | an undefined name panics when it is called | a rule from which calls lead to it panics |
+//! | `PEEK` or `POP` on the empty stack panics. | It is an error at the start of the text. |
+//! | A rule may run for any time, unless `pest::set_call_limit` was called. | A rule that uses the stack may. The turns of any other rule are linear in the text and the pairs. |
+//! | An error names its rules, however long the search for them takes. | If 2^23 steps, and 32 more for each byte, do not find them, the error says so. It is at the furthest position of a failure. |
+//! | The listener is called at each call of a rule. | It is called for each token of a match, in the order of their starts. |
+//! | A builtin can be parsed as a rule. | Any name that is no rule panics, as an undefined rule does in the original. |
+//! | An undefined name panics when it is called. | A rule panics if calls lead from it to an undefined name. |
 //!
 //! # Cost
 //!
-//! [`Vm::new`] compiles the rules, once. A [`Vm`] is `Send` and `Sync`: any number of threads may parse with it, and none
-//! waits for another. No depth of a tree takes stack.
+//! [`Vm::new`] compiles the rules once. A [`Vm`] is `Send` and `Sync`: any number of threads may parse with it, and
+//! none waits for another. The depth of a tree takes no stack of the process.
 #![forbid(unsafe_code)]
 #![warn(missing_docs, rust_2018_idioms, unused_qualifications)]
 
@@ -51,7 +51,7 @@ use runtime::Position;
 #[doc(hidden)]
 pub use runtime;
 
-/// A function that is called with the name of a rule and a position, and answers whether to stop.
+/// A function that gets the name of a rule and a position, and returns whether to stop.
 type Listener = Box<dyn Fn(String, &Position<'_>) -> bool + Sync + Send + RefUnwindSafe + UnwindSafe>;
 
 /// A machine that runs optimized rules on texts.
@@ -70,10 +70,10 @@ pub struct Vm {
 }
 
 impl Vm {
-    /// Makes a machine of optimized rules, which are compiled here.
+    /// Compiles optimized rules, and makes a machine that runs them.
     ///
     /// # Panics
-    /// Where memory is refused.
+    /// If an allocation fails.
     pub fn new(mut rules: Vec<OptimizedRule>) -> Vm {
         let own = rules.len();
         let mut block = matching::compile(&rules).ok();
@@ -102,14 +102,16 @@ impl Vm {
         Vm { listener: Some(listener), ..Vm::new(rules) }
     }
 
-    /// Runs a rule from the start of a text. Returns its pairs, or an error at the furthest position of a failure,
-    /// with the rules expected there.
+    /// Runs the rule named `rule` from the start of `input`. Returns its pairs.
     ///
-    /// A rule that has no outcome, since `PEEK` or `POP` meets the empty stack, is an error at the start.
+    /// # Errors
+    /// - An error at the furthest position of a failure, with the rules that are expected there, if the rule fails.
+    /// - An error at the start of the text, if `PEEK` or `POP` comes to the empty stack.
     ///
     /// # Panics
-    /// Where no rule has the name, where the rule, or one that it calls, calls a name that is neither a rule nor a builtin, and
-    /// where memory is refused.
+    /// - If no rule has the name.
+    /// - If the rule, or one that it calls, calls a name that is neither a rule nor a builtin.
+    /// - If an allocation fails.
     pub fn parse<'a>(&'a self, rule: &'a str, input: &'a str) -> Result<Pairs<'a, &'a str>, Error<&'a str>> {
         let Some(block) = &self.block else { panic!("the rules have a range of no characters") };
         // Of rules of one name the last is meant. `EOI` is no rule.
