@@ -19,6 +19,8 @@ export interface Fix {
   start: number;
   end: number;
   replacement: string;
+  /** `pest-lint --fix` applies safe fixes. An unsafe one can change what the rules match. */
+  applicability: "safe" | "unsafe";
 }
 
 /** Another part of a grammar that matters to a diagnostic. */

@@ -52,7 +52,7 @@ test("diagnostics have codes, helps and fixes; a grammar without any has none", 
   const [error] = pest.diagnose('a = { "x" "y" }');
   assert.deepEqual([error.kind, error.code, error.line, error.column, error.help],
     ["error", "pest::syntax", 1, 11, "a sequence is written with `~`"]);
-  assert.deepEqual(error.fix, { start: 9, end: 9, replacement: " ~" });
+  assert.deepEqual(error.fix, { applicability: "safe", start: 9, end: 9, replacement: " ~" });
   assert.equal(pest.diagnose('a = { "in" | "int" }')[0].kind, "warning");
   assert.deepEqual(pest.diagnose(LIST), []);
 });

@@ -115,6 +115,8 @@ class Fix(NamedTuple):
     """The byte before which it ends."""
     replacement: str
     """The text that goes between the two."""
+    is_safe: bool = False
+    """Whether pest-lint applies it by --fix. An unsafe fix can change what the rules match."""
 
     def apply(self, grammar: str) -> str:
         """Returns the grammar with the change. Other fixes of the grammar do not fit the result."""
@@ -777,7 +779,7 @@ def _diagnostic(found: Any) -> Diagnostic:
     """A diagnostic of JSON."""
     places = (found["start"], found["end"], found["line"], found["column"])
     fix = found["fix"]
-    change = Fix(fix["start"], fix["end"], fix["replacement"]) if fix else None
+    change = Fix(fix["start"], fix["end"], fix["replacement"], fix["applicability"] == "safe") if fix else None
     related = tuple(Related(*(part[name] for name in Related._fields)) for part in found["related"])
     heading = (found["kind"], found["code"], found["message"])
     return Diagnostic(*heading, *places, found["help"], change, related, tuple(found["expected"]))

@@ -123,14 +123,14 @@ class Diagnosing(unittest.TestCase):
         self.assertEqual(found.help, "a sequence is written with `~`")
         self.assertIn("`~`", found.expected)
         self.assertEqual(str(found), f"1:11: error[pest::syntax]: {found.message}")
-        self.assertEqual(found.fix.apply(text), 'a = { "ä" ~ "y" }')
+        self.assertEqual((found.fix.apply(text), found.fix.is_safe), ('a = { "ä" ~ "y" }', True))
         self.assertEqual(pest_meta.diagnostics(found.fix.apply(text)), [])
 
     def test_warnings_are_those_of_an_accepted_grammar(self):
         text = "a = { 'z'..'a' }"
         [found] = pest_meta.diagnostics(text)
         self.assertEqual((found.kind, found.code, found.start, found.end), ("warning", "pest::reversed_range", 6, 14))
-        self.assertEqual((found.fix, found.expected), (None, ()))
+        self.assertEqual((found.fix, found.expected), (pest_meta.Fix(6, 14, "'a'..'z'", is_safe=False), ()))
         self.assertEqual(pest_meta.check(text), [])
         self.assertEqual(pest_meta.diagnostics(""), [])
 

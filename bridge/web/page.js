@@ -177,7 +177,8 @@ function problemItem(it) {
   if (it.help) item.append(element("p", { className: "good" }, `help: ${it.help}`));
   if (it.fix) {
     const old = grammar.getValue().slice(it.fix.start, it.fix.end);
-    const label = !it.fix.replacement ? `Fix: remove ${clip(old)}` : !old ? `Fix: write ${clip(it.fix.replacement)}` : `Fix: ${clip(old)} → ${clip(it.fix.replacement)}`;
+    const fix = it.fix.applicability === "safe" ? "Fix" : "Unsafe fix";
+    const label = !it.fix.replacement ? `${fix}: remove ${clip(old)}` : !old ? `${fix}: write ${clip(it.fix.replacement)}` : `${fix}: ${clip(old)} → ${clip(it.fix.replacement)}`;
     item.append(element("button", { className: "fix", type: "button", onclick: () => applyFix(it.fix) }, label));
   }
   return item;

@@ -59,6 +59,8 @@ pub struct Fix {
     pub span: Range<usize>,
     /// The text in their place.
     pub replacement: String,
+    /// Whether pest-lint applies it by `--fix`. An unsafe fix can change what the rules match.
+    pub is_safe: bool,
 }
 
 /// A part of a grammar that matters to a diagnostic.
@@ -170,11 +172,12 @@ fn unless_null<'a, T>(
 
 /// Reads a fix.
 fn fix(reader: &mut Reader<'_>) -> Reading<Fix> {
-    let mut fix = Fix { span: 0..0, replacement: String::new() };
+    let mut fix = Fix { span: 0..0, replacement: String::new(), is_safe: false };
     reader.object(|reader, member| match member {
         "start" => reader.place().map(|it| fix.span.start = it),
         "end" => reader.place().map(|it| fix.span.end = it),
         "replacement" => reader.text().map(|it| fix.replacement = it),
+        "applicability" => reader.text().map(|it| fix.is_safe = it == "safe"),
         _ => reader.pass(),
     })?;
     Ok(fix)

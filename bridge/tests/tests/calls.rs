@@ -596,6 +596,7 @@ fn a_refused_grammar_has_errors_with_helps() {
     assert_eq!(error.help.as_deref(), Some("a sequence is written with `~`"));
     assert!(error.expected.iter().any(|it| it == "`~`") && error.message.starts_with("expected "));
     assert_eq!(error.to_string(), format!("1:11: error[pest::syntax]: {}", error.message));
+    assert!(error.fix.as_ref().unwrap().is_safe);
     let fixed = error.fix.as_ref().unwrap().apply(text);
     assert_eq!(fixed, "a = { \"ä\" ~ \"y\" }");
     assert!(diagnose(&fixed).is_empty());
@@ -617,6 +618,8 @@ fn an_accepted_grammar_has_warnings_alone() {
     let found = diagnose(text);
     let [warning] = &found[..] else { panic!("{found:?}") };
     assert_eq!((warning.severity, &warning.code[..]), (Severity::Warning, "pest::reversed_range"));
-    assert_eq!((&text[warning.span.clone()], &warning.fix), ("'z'..'a'", &None));
+    let fix = warning.fix.as_ref().unwrap();
+    assert_eq!((&text[warning.span.clone()], fix.is_safe), ("'z'..'a'", false));
+    assert_eq!(fix.apply(text), "a = { 'a'..'z' }");
     assert!(parse_and_optimize(text).is_ok() && diagnose("").is_empty());
 }
