@@ -1,4 +1,4 @@
-//! If in the grammar a text failed.
+//! The calls that are open where a text fails.
 ghost use Rattle.std.specs.Prelude.{◌≡◌, Some, true};
 ghost use Rattle.base_language.specs.Language.Expression.{last_place};
 ghost use Rattle.base_language.specs.Language.Text.{Text};

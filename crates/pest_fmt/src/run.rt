@@ -28,16 +28,36 @@ pub fn format_files(
     ensures none { names.now ≡ [] → IfOk result (λ status. status ≡ Status.Done) }
 {
     let mut status = Status::Done;
+    let mut left = 0usize;
     for name in names {
         let name = name.as_str();
         let delivery = delivery.for_name(name);
         let one = format_file(rt, name, delivery, options)?;
         status = status.worse(one);
+        left = count_with(left, one);
         if matches!(one, Status::Unwritable) && !matches!(delivery.target, Target::File) {
             return Ok(status);
         }
     }
+    if matches!(delivery.target, Target::Difference) {
+        report_count(rt, left, names.len());
+    }
     Ok(status)
+}
+
+/// Returns how many files are not formatted: `left`, and one more if `one` is not the status of a formatted one.
+fn count_with(left: usize, one: Status) -> usize {
+    match one {
+        Status::Done => left,
+        _ => left.saturating_add(1),
+    }
+}
+
+/// Writes on standard error how many of `count` files are not formatted, if some are not.
+fn report_count(rt: &HostRuntime, left: usize, count: usize) {
+    if left != 0 {
+        let _ = eprintln!(rt; "{left} of {count} files are not formatted");
+    }
 }
 
 /// Formats the file of a name.

@@ -5,7 +5,7 @@ ghost use Rattle.program_support.specs.Folders.{IsGrammarName};
 
 use crate::lint::Source;
 use program_support::folders::{UnreadFolder, is_folder, read_folder};
-use program_support::input::read_input;
+use program_support::input::{describe_flaw, read_input};
 use std::alloc::{AllocError, Global};
 
 /// The files of these names: of a folder all below it whose names end with `.pest`, in order. No clause can
@@ -37,7 +37,10 @@ fn read_source(rt: &HostRuntime, name: &str) -> Result<Source, AllocError>
 {
     let alloc = rt.alloc();
     let (bytes, why) = match read_input(rt, name) {
-        Ok(bytes) => (bytes, None),
+        Ok(bytes) => {
+            let why = describe_flaw(alloc, &bytes)?;
+            (bytes, why)
+        }
         Err(error) => (Vec::new(alloc), Some(format!(in alloc; "{error}")?)),
     };
     Ok(Source {

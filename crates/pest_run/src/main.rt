@@ -33,7 +33,7 @@ use explanations::{explain_code, explain_failure};
 use forms::note_forms;
 use grammars::Reading;
 use listing::list_file;
-use program_support::input::read_input;
+use program_support::input::{describe_flaw, read_input};
 use program_support::messages::cannot_write;
 use program_support::output::{Output, RefusedWrite};
 use program_support::status::Status;
@@ -55,7 +55,11 @@ fn source<'a>(rt: &HostRuntime, name: &'a str) -> Result<Source<'a>, AllocError>
         Ok(bytes) => (bytes, None),
         Err(error) => (Vec::new(alloc), Some(format!(in alloc; "{error}")?)),
     };
-    Ok(Source { name, bytes, why })
+    let mut source = Source { name, bytes, why };
+    if source.why.is_none() && !is_code(&source) {
+        source.why = describe_flaw(alloc, &source.bytes)?;
+    }
+    Ok(source)
 }
 
 /// Returns the file of a grammar for what needs its text: a compiled grammar counts as a file that cannot be

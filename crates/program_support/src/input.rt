@@ -1,7 +1,7 @@
 //! The inputs of the programs: files, and standard input.
-ghost use Rattle.std.specs.Prelude.{◌≡◌, IfOk, IfSome};
+ghost use Rattle.std.specs.Prelude.{◌≡◌, IfNone, IfOk, IfSome, IsUtf8};
 
-use std::alloc::Global;
+use std::alloc::{AllocError, Global};
 use std::fs::File;
 use std::io::{self, Read};
 
@@ -32,4 +32,29 @@ fn read_all<R: Read>(alloc: Global, reader: &mut R) -> io::Result<Vec<u8>>
         return Err(io::Error::other("it has 4 GiB or more"));
     }
     Ok(bytes)
+}
+
+/// Returns why bytes are no text, in words: the first byte that is wrong, from 0, and its line, from 1. Returns
+/// `None` if the bytes are UTF-8.
+///
+/// # Errors
+/// `AllocError` if an allocation fails.
+pub fn describe_flaw(alloc: Global, bytes: &[u8]) -> Result<Option<String>, AllocError>
+    ensures text { IfOk result (λ why. IfNone why (IsUtf8 bytes.now)) }
+    ensures flaw { IfOk result (λ why. IfSome why (λ words. ¬ (IsUtf8 bytes.now))) }
+{
+    let Err(error) = str::from_utf8(bytes) else {
+        return Ok(None);
+    };
+    let place = error.valid_up_to();
+    let line = line_of(bytes, place);
+    let words = format!(in alloc; "it is not UTF-8: byte {place} is wrong, in line {line}")?;
+    Ok(Some(words))
+}
+
+/// Returns the number of the line in which the byte `place` is, from 1.
+fn line_of(bytes: &[u8], place: usize) -> usize {
+    let before = bytes.get(..place).unwrap_or(bytes);
+    let feeds = before.iter().filter(|byte| **byte == b'\n').count();
+    feeds.saturating_add(1)
 }
