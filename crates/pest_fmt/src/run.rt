@@ -45,7 +45,7 @@ pub fn format_files(
     Ok(status)
 }
 
-/// Returns how many files are not formatted: `left`, and one more if `one` is not the status of a formatted one.
+/// Returns how many files are not formatted: `left`, and one more if `one` is not that of a formatted file.
 fn count_with(left: usize, one: Status) -> usize {
     match one {
         Status::Done => left,
