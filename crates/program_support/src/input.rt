@@ -34,8 +34,8 @@ fn read_all<R: Read>(alloc: Global, reader: &mut R) -> io::Result<Vec<u8>>
     Ok(bytes)
 }
 
-/// Returns why bytes are no text, in words: the first byte that is wrong, from 0, and its line, from 1. If the
-/// bytes are UTF-8, there is no reason.
+/// Returns why bytes are no text, in words: the first byte that is wrong, from 0, and its line, from 1.
+/// If the bytes are UTF-8, there is no reason.
 ///
 /// # Errors
 /// `AllocError` if an allocation fails.
