@@ -249,8 +249,8 @@ fn only_fails(code: &Bytecode<'_>, label: u32) -> bool {
     false
 }
 
-/// Labels whose kinds follow from each other: a forest of disjoint sets. In a set each label is deeper than its
-/// parent by a number of slots, modulo 2^32.
+/// Labels whose kinds follow from each other: a forest of disjoint sets. In a set each label is deeper than
+/// its parent by a number of slots, modulo 2^32.
 #[derive(Drop)]
 struct LabelSets {
     parents: Vec<u32>,
