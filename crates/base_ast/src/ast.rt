@@ -1,6 +1,6 @@
 //! Grammars as values: rules, their types and their expressions.
 //!
-//! A string field is a text, and two values are equal where they are of the same variant with equal
+//! A string field is a text, and two values are equal if they are of the same variant with equal
 //! fields. Neither an allocator nor a capacity counts.
 mod cloned;
 mod compared;
@@ -54,27 +54,27 @@ pub enum Expr {
     /// A call of the rule or the builtin of that name.
     Ident(String),
     /// The texts from one index of the stack up to another, counted from its bottom. A negative index
-    /// counts from the stack's length, which is also the end where none is given: `PEEK[0..-1]`.
+    /// counts from the stack's length, which is also the end if none is given: `PEEK[0..-1]`.
     PeekSlice(i32, Option<i32>),
-    /// Succeeds where the expression succeeds, and takes nothing: `&e`.
+    /// Succeeds if the expression succeeds, and takes nothing: `&e`.
     PosPred(Box<Expr>),
-    /// Succeeds where the expression fails, and takes nothing: `!e`.
+    /// Succeeds if the expression fails, and takes nothing: `!e`.
     NegPred(Box<Expr>),
     /// One expression after another: `a ~ b`.
     Seq(Box<Expr>, Box<Expr>),
-    /// The first expression, or the second where that fails: `a | b`.
+    /// The first expression, or the second if that fails: `a | b`.
     Choice(Box<Expr>, Box<Expr>),
-    /// The expression, or nothing where it fails: `e?`.
+    /// The expression, or nothing if it fails: `e?`.
     Opt(Box<Expr>),
     /// The expression as often as it succeeds: `e*`.
     Rep(Box<Expr>),
     /// The expression as often as it succeeds, and at least once: `e+`.
     RepOnce(Box<Expr>),
-    /// So many times: `e{2}`.
+    /// Exactly this number of times: `e{2}`.
     RepExact(Box<Expr>, u32),
-    /// At least so many times: `e{2,}`.
+    /// At least this number of times: `e{2,}`.
     RepMin(Box<Expr>, u32),
-    /// At most so many times: `e{,2}`.
+    /// At most this number of times: `e{,2}`.
     RepMax(Box<Expr>, u32),
     /// From the first number of times to the second: `e{2, 3}`.
     RepMinMax(Box<Expr>, u32, u32),

@@ -11,7 +11,7 @@ pub fn clones_of_rule_types()
     ensures infallible { (ty : RuleType) → ⟦<RuleType as Clone>⟧.is_infallible ty }
 {}
 
-/// Two types of rules are equal where they are one variant.
+/// Two types of rules are equal if they are one variant.
 pub fn equality_of_rule_types()
     ensures { (a b : RuleType) → IsTrue (⟦<RuleType as PartialEq>⟧.eq a b) ↔ (a ≡ b) }
 {}

@@ -36,17 +36,17 @@ pub enum OptimizedExpr {
     /// A call of the rule or the builtin of that name.
     Ident(String),
     /// The texts from one index of the stack up to another, counted from its bottom. A negative index
-    /// counts from the stack's length, which is also the end where none is given: `PEEK[0..-1]`.
+    /// counts from the stack's length, which is also the end if none is given: `PEEK[0..-1]`.
     PeekSlice(i32, Option<i32>),
-    /// Succeeds where the expression succeeds, and takes nothing: `&e`.
+    /// Succeeds if the expression succeeds, and takes nothing: `&e`.
     PosPred(Box<OptimizedExpr>),
-    /// Succeeds where the expression fails, and takes nothing: `!e`.
+    /// Succeeds if the expression fails, and takes nothing: `!e`.
     NegPred(Box<OptimizedExpr>),
     /// One expression after another: `a ~ b`.
     Seq(Box<OptimizedExpr>, Box<OptimizedExpr>),
-    /// The first expression, or the second where that fails: `a | b`.
+    /// The first expression, or the second if that fails: `a | b`.
     Choice(Box<OptimizedExpr>, Box<OptimizedExpr>),
-    /// The expression, or nothing where it fails: `e?`.
+    /// The expression, or nothing if it fails: `e?`.
     Opt(Box<OptimizedExpr>),
     /// The expression as often as it succeeds: `e*`.
     Rep(Box<OptimizedExpr>),
@@ -60,6 +60,6 @@ pub enum OptimizedExpr {
     PushLiteral(String),
     /// The expression under a tag, without the `#`; the tag does not change its meaning: `#tag = e`.
     NodeTag(Box<OptimizedExpr>, String),
-    /// The expression; where it fails, the stack is as it was before.
+    /// The expression; if it fails, the stack is as it was before.
     RestoreOnErr(Box<OptimizedExpr>),
 }

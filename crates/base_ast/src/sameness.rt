@@ -1,4 +1,4 @@
-//! Equality of trees, iteratively with a worklist, and recursively where there is no memory for it.
+//! Equality of trees, iteratively with a worklist, and recursively if there is no memory for it.
 ghost use Rattle.std.specs.Prelude.{◌≡◌, ◌+◌, ◌<◌, ◌≤◌, ◌&&◌, Bool, IfOk};
 ghost use Rattle.base_ast.specs.Sameness.{are_equal, heaviness_left, heaviness_of_all, is_same};
 
@@ -19,7 +19,7 @@ pub enum Comparison<'a, T> {
     Nothing(bool),
     /// Their operands, and the answer on all else.
     One(Both<'a, T>, bool),
-    /// Their operands, where all else is equal.
+    /// Their operands, if all else is equal.
     Two(Both<'a, T>, Both<'a, T>),
 }
 
@@ -40,7 +40,7 @@ pub fn equal<T: TreeEq>(a: &T, b: &T) -> bool
     are_same(&a.compare_roots(b))
 }
 
-/// Whether the remaining comparisons hold, iteratively; recursively where memory is refused.
+/// Whether the remaining comparisons hold, iteratively; recursively if memory is refused.
 pub fn are_same<T: TreeEq>(left: &Comparison<'_, T>) -> bool
     ensures { result ≡ is_same T.is_equal left.now }
 {

@@ -12,7 +12,7 @@ use std::alloc::AllocError;
 pub enum Joint {
     /// One after another.
     Sequence,
-    /// The first, or the second where that fails.
+    /// The first, or the second if that fails.
     Choice,
 }
 

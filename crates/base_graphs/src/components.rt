@@ -63,7 +63,7 @@ fn leaders_of(
     Ok(leaders)
 }
 
-/// Returns the numbers, 0 where there is none.
+/// Returns the numbers, 0 if there is none.
 fn ranks_of(alloc: Global, origins: &[Option<usize>]) -> Result<Vec<usize>, AllocError> {
     let mut ranks = Vec::with_capacity(alloc, origins.len())?;
     for origin in origins {

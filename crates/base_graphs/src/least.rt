@@ -14,7 +14,7 @@ pub trait Inference {
 
     ghost items: { Self → List Self.Item };
 
-    // whether the flag of an item follows from others, where these say which of them are set
+    // whether the flag of an item follows from others; the function says which of them are set
     ghost infers: { Self → (ℕ → Bool) → Self.Item → Bool };
 
     /// Counts the items.

@@ -10,7 +10,7 @@ use crate::grammar::Rule;
 use crate::runtime::{Error, ErrorVariant, InputLocation, LineColLocation, Position, Span};
 use std::hash::Hash;
 
-/// Two rules are equal where they are one variant.
+/// Two rules are equal if they are one variant.
 pub fn equality_of_rules()
     ensures { (a b : Rule) → IsTrue (⟦<Rule as PartialEq>⟧.eq a b) ↔ (a ≡ b) }
 {}
@@ -62,23 +62,23 @@ pub fn clones_of_lines_and_columns()
     ensures infallible { (location : LineColLocation) → ⟦<LineColLocation as Clone>⟧.is_infallible location }
 {}
 
-/// Two spans are equal where they go from one byte to one byte of texts that are equal.
+/// Two spans are equal if they go from one byte to one byte of texts that are equal.
 pub fn equality_of_spans()
     ensures { (a b : Span) → IsTrue (⟦<Span<'static> as PartialEq>⟧.eq a b)
         ↔ (piece_of a ≡ piece_of b) }
 {}
 
-/// Two positions are equal where they are before one byte of texts that are equal.
+/// Two positions are equal if they are before one byte of texts that are equal.
 pub fn equality_of_positions()
     ensures { (a b : Position) → IsTrue (⟦<Position<'static> as PartialEq>⟧.eq a b) ↔ SamePlace a b }
 {}
 
-/// Two variants are equal where both times no rule matched, or both messages are equal.
+/// Two variants are equal if both times no rule matched, or both messages are equal.
 pub fn equality_of_variants()
     ensures { (a b : ErrorVariant) → IsTrue (⟦<ErrorVariant as PartialEq>⟧.eq a b) ↔ SaySame a b }
 {}
 
-/// Two locations in bytes are equal where they are one position, or one start and one end.
+/// Two locations in bytes are equal if they are one position, or one start and one end.
 pub fn equality_of_locations()
     ensures { (a b : InputLocation) → IsTrue (⟦<InputLocation as PartialEq>⟧.eq a b) ↔ (a ≡ b) }
 {}
@@ -88,7 +88,7 @@ pub fn equality_of_lines_and_columns()
     ensures { (a b : LineColLocation) → IsTrue (⟦<LineColLocation as PartialEq>⟧.eq a b) ↔ (a ≡ b) }
 {}
 
-/// Two errors are equal where their messages, positions and printed lines are equal.
+/// Two errors are equal if their messages, positions and printed lines are equal.
 pub fn equality_of_errors<R>()
     ensures { (a b : Error R) → IsTrue (⟦<Error<R> as PartialEq>⟧.eq a b) ↔ SameError a b }
 {}

@@ -32,9 +32,9 @@ pub fn terminates()
         → NamesHaveReadableCounts g → IsWellFormed g → IsPlain g → EndsFrom g classes start }
 {}
 
-/// Where names are distinct, an expression that occurs in some rule of the list occurs in the rule that a
-/// name means, and the other way round; and readable counts are the same by the rules of the list and by
-/// the rules that names mean.
+/// If names are distinct, an expression occurs in some rule of the list exactly if it occurs in the rule that
+/// a name means. Readable counts are then the same by the rules of the list and by the rules that names
+/// mean.
 pub fn distinct_names_hide_no_rule()
     ensures parts { (g : Grammar) (p : Expression) → HasDistinctNames g → InSomeRule g p ↔ InRules g p }
     ensures counts { (g : Grammar) → HasDistinctNames g → HasReadableCounts g ↔ NamesHaveReadableCounts g }
@@ -114,7 +114,7 @@ pub fn one_list_of_what_is_expected()
         → (d : Matches g classes e m s o) → (f : Matches g classes e m s p) → expected d ≡ expected f }
 {}
 
-/// Where nothing is skipped, a listed rule matches the same texts as before.
+/// If nothing is skipped, a listed rule matches the same texts as before.
 pub fn listing_keeps_matches()
     ensures { ListingKeeps }
 {}

@@ -111,7 +111,7 @@ impl<'a> ByteInput<'a> {
         }
     }
 
-    /// Reads so many bytes.
+    /// Reads `size` bytes.
     fn read_bytes(&mut self, size: usize) -> Result<&'a [u8], BinaryRefusal>
         ensures bytes { IfOk result (λ bytes. self.old.rest.now ≡ bytes.now ++ self.new.rest.now) }
         ensures size { IfOk result (λ bytes. length bytes.now ≡ size) }

@@ -16,8 +16,8 @@ use base_language::runtime::Span;
 use front_spanned::{ParserExpr, ParserRule};
 use std::alloc::{AllocError, Global};
 
-/// Answers a question about an expression, where its names mean these rules (the last of a name), by
-/// adding its nodes after those of the rules. The only fault is an allocation failure.
+/// Answers a question about an expression by adding its nodes after those of the rules. Its names mean
+/// these rules (the last of a name). The only fault is an allocation failure.
 pub fn answer_for<'i>(
     alloc: Global,
     expr: &ParserExpr<'i>,

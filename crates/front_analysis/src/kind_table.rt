@@ -16,9 +16,9 @@ pub enum NodeKind {
     End,
     /// A call, by the number of the rule.
     Call(usize),
-    /// Succeeds in place where its operand succeeds.
+    /// Succeeds in place if its operand succeeds.
     EndCall(usize),
-    /// Succeeds in place where its operand fails.
+    /// Succeeds in place if its operand fails.
     Ahead(usize),
     /// May leave its operand out.
     NotAhead(usize),

@@ -20,7 +20,7 @@ pub struct Node<'n, 'i> {
     pub expr: &'n ParserExpr<'i>,
     pub span: &'n Span<'i>,
     pub shape: Shape,
-    /// The number of the first node inside this one, or its own where there is none inside.
+    /// The number of the first node inside this one, or its own if there is none inside.
     pub start: usize,
     /// The number of the rule in which the node is.
     pub rule: usize,
@@ -45,7 +45,7 @@ impl<'n, 'i> Table<'n, 'i> {
     }
 }
 
-/// Returns the number of the first node inside a node, or the node's own where there is none inside.
+/// Returns the number of the first node inside a node, or the node's own if there is none inside.
 fn start_at<'n, 'i>(nodes: &[Node<'n, 'i>], node: usize) -> usize
     ensures { result ≡ start_at nodes.now node }
 {

@@ -16,7 +16,7 @@ pub struct FusedCode {
     pub fused: &'static [Fused],
 }
 
-/// Returns the exact code, of which nothing is fused: it runs where a text is refused.
+/// Returns the exact code, of which nothing is fused: it runs if a text is refused.
 pub fn exact_code() -> FusedCode
     ensures code { IsExactCode (lists_in result.code) }
     ensures fused { IsFusionOf (lists_in result.code) result.fused.now }

@@ -9,7 +9,7 @@ ghost use Rattle.matcher_code.specs.Laid.{AreLaid, IsPoint, Point};
 ghost use Rattle.front_code.specs.Codes.{IsCodeOfMetaGrammar, IsExactCode, IsFastCode};
 ghost use Rattle.front_code.specs.Layouts.{AreLaidAll};
 
-/// Where the code at each point of a list has that of its parts, and calls bodies that begin at such points,
+/// The code at each point of a list has that of its parts, and calls bodies that begin at such points. Then
 /// a longer list has these points, and each of its points is laid by points of that list.
 pub fn whole_code_is_laid()
     ensures { (exact : Bool) (g : Grammar) (classes : Classes) (code : CodeLists) (number : Text → ℕ)

@@ -16,11 +16,11 @@ use std::alloc::{AllocError, Global};
 /// The result of a rule of the meta-grammar on a text.
 #[derive(Drop)]
 pub struct RuleRun {
-    /// The end of the match in bytes, or `None` where the rule fails.
+    /// The end of the match in bytes, or `None` if the rule fails.
     pub end: Option<usize>,
     /// The trees of the match in preorder; the row of each is the number of its rule.
     pub trees: Vec<TreeNode>,
-    /// The greatest position in bytes at which a call that counts failed; 0 where none did.
+    /// The greatest position in bytes at which a call that counts failed; 0 if none did.
     pub furthest: usize,
     /// The numbers of the rules that are expected at the position that was asked for, in the order in which
     /// they are first called there.

@@ -24,7 +24,7 @@ use std::collections::HashSet;
 /// `grammar_rules`. In any others, the first tree of a `grammar_rule` is its definition, if that is an
 /// `identifier`, and all `identifier`s after it are calls.
 ///
-/// Where names are wrong there is an error at each of these positions, in this order:
+/// If names are wrong, there is an error at each of these positions, in this order:
 /// - `NAME is a pest keyword`, at each definition whose name pest reserves;
 /// - `rule NAME already defined`, at each definition that has an earlier one of its name;
 /// - `rule NAME is undefined`, at each call of a name that is neither defined nor a builtin.

@@ -26,7 +26,7 @@ pub struct FirstTree<'t> {
     pub others: &'t [TokenNode],
 }
 
-/// Returns the first of the trees of these nodes, or `None` where there is no tree.
+/// Returns the first of the trees of these nodes, or `None` if there is no tree.
 #[inline(always)]
 pub fn first_tree(nodes: &[TokenNode]) -> Option<FirstTree<'_>>
     ensures { MatchOption result (trees_of nodes.entry.now ≡ NoTokens)

@@ -50,7 +50,7 @@ fn add_body(bodies: &mut HashMap<String, Expr>, rule: &Rule) -> Result<(), Alloc
     }
 }
 
-/// Collects the bodies that `skip` looks up in these rules, none where no Atomic rule has a repetition
+/// Collects the bodies that `skip` looks up in these rules, none if no Atomic rule has a repetition
 /// that a forward search may replace. The only fault is an allocation failure.
 pub(crate) fn bodies_for_skip(
     alloc: Global,

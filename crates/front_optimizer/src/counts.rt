@@ -21,7 +21,7 @@ pub fn counts_are_readable(rules: &Vec<Rule>) -> bool
     true
 }
 
-// Tests an expression iteratively; where memory for the worklist is refused, recursively.
+// Tests an expression iteratively, or recursively if memory for the worklist is refused.
 fn is_readable(alloc: Global, expr: &Expr) -> bool
     ensures { IsTrue result ↔ PartsAreReadable (expression_of expr.now) }
 {

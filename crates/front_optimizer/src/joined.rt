@@ -186,7 +186,7 @@ fn join_pair(alloc: Global, left: JoinedExpr, right: JoinedExpr) -> Result<Joine
     }
 }
 
-// Makes `left ~ right`, or one literal, where the left side is a literal of several.
+// Makes `left ~ right`, or one literal, if the left side is a literal of several.
 fn append_to_texts(
     alloc: Global,
     first: VecDeque<String>,
@@ -202,7 +202,7 @@ fn append_to_texts(
     }
 }
 
-// Makes `left ~ right`, or one literal, where the left side is a case-insensitive literal of several.
+// Makes `left ~ right`, or one literal, if the left side is a case-insensitive literal of several.
 fn append_to_insensitive(
     alloc: Global,
     first: VecDeque<String>,
@@ -220,7 +220,7 @@ fn append_to_insensitive(
     }
 }
 
-// Makes `left ~ right`, or one literal, where the left side is no literal of several.
+// Makes `left ~ right`, or one literal, if the left side is no literal of several.
 fn append_to_other(alloc: Global, left: Expr, right: JoinedExpr) -> Result<JoinedExpr, AllocError>
     ensures { IfOk result
         (λ j. said_by j ≡ joined_here (Seq (expression_of left) (said_by right))) }

@@ -7,7 +7,7 @@ use base_ast::ast::Expr;
 use base_ast::deep::Deep;
 use std::alloc::{AllocError, Global};
 
-/// Makes `left ~ right`. Where memory is refused, both are dropped iteratively.
+/// Makes `left ~ right`. If memory is refused, both are dropped iteratively.
 pub(crate) fn sequence_of(
     alloc: Global,
     left: Deep<Expr>,
@@ -21,7 +21,7 @@ pub(crate) fn sequence_of(
     Ok(Expr::Seq(left.into_inner(), right.into_inner()))
 }
 
-/// Makes `left | right`. Where memory is refused, both are dropped iteratively.
+/// Makes `left | right`. If memory is refused, both are dropped iteratively.
 pub(crate) fn choice_of(
     alloc: Global,
     left: Deep<Expr>,

@@ -44,7 +44,7 @@ pub fn optimize(alloc: Global, rules: Vec<Rule>) -> Result<Vec<OptimizedRule>, F
     restore_rules(alloc, listing?)
 }
 
-// Runs the passes up to the listing over all rules, where names are looked up in `bodies`.
+// Runs the passes up to the listing over all rules. Names are looked up in `bodies`.
 fn optimized_rules(
     alloc: Global,
     rules: Vec<Rule>,
@@ -89,7 +89,7 @@ fn with_rule(
     Ok(answer)
 }
 
-// Runs the passes up to the listing over one rule, where names are looked up in `bodies`, and `names` has
+// Runs the passes up to the listing over one rule. Names are looked up in `bodies`, and `names` has
 // those that denote strings.
 fn optimized_rule(
     alloc: Global,

@@ -19,10 +19,10 @@ use std::alloc::{AllocError, Global};
 use std::collections::HashMap;
 
 /// Returns the rule; if it is Atomic, with each `(!c ~ ANY)*` as a forward search to the next of the
-/// strings of `c`, or to the end. A literal denotes itself, a name the strings of the rule's body, and `x
-/// | r`, where `x` is a literal or a name, the strings of `x` and then those of `r`; for anything else,
-/// or a cycle of names, the repetition stays. Names are looked up in `bodies`, so over the grammar whose
-/// bodies they are a chain of steps leads there, and where no rule of it is named `ANY`, the outcomes
+/// strings of `c`, or to the end. A literal denotes itself, and a name the strings of the rule's body.
+/// If `x` is a literal or a name, `x | r` denotes the strings of `x` and then those of `r`. For anything
+/// else, or a cycle of names, the repetition stays. Names are looked up in `bodies`, so over the grammar
+/// whose bodies they are a chain of steps leads there. If no rule of it is named `ANY`, the outcomes
 /// from every start stay. Name and type stay. The only fault is an allocation failure.
 pub fn skip(alloc: Global, rule: Rule, bodies: &HashMap<String, Expr>) -> Result<Rule, Fault>
     ensures name { IfOk result (λ r. text_of r.name ≡ text_of rule.name) }
@@ -118,7 +118,7 @@ pub(crate) fn is_no_turn(expr: &Expr) -> bool
     }
 }
 
-// Returns the strings of `c`, where the expression is `!c ~ ANY`.
+// Returns the strings of `c`, if the expression is `!c ~ ANY`.
 fn texts_until(
     alloc: Global,
     bodies: &HashMap<String, Expr>,

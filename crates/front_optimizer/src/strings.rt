@@ -1,4 +1,4 @@
-//! The strings that an expression denotes, where it is a literal, a name or a choice of such: a
+//! The strings that an expression denotes, if it is a literal, a name or a choice of such: a
 //! depth-first search over names.
 ghost use Rattle.std.specs.Prelude.{◌≡◌, IfOk, OnOk, MatchOption, map, string_bytes};
 ghost use Rattle.base_language.specs.Language.Expression.{Grammar};
@@ -60,7 +60,7 @@ pub(crate) fn names_with_strings<'a>(
     Ok(names)
 }
 
-/// Collects the strings of an expression, where names are looked up in `bodies`; answers none where there
+/// Collects the strings of an expression. Names are looked up in `bodies`. Answers none if there
 /// is a name of no rule, a cycle of names or anything else. The only fault is an allocation failure.
 pub(crate) fn strings_of(
     alloc: Global,
@@ -158,7 +158,7 @@ fn look_through<'a>(
     }
 }
 
-// Collects the strings, where fewer than `names` names are nested in each other.
+// Collects the strings, if fewer than `names` names are nested in each other.
 fn texts_within(
     alloc: Global,
     bodies: &HashMap<String, Expr>,

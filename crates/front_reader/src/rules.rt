@@ -39,7 +39,7 @@ pub use front_syntax::grammar::PestParser;
 use front_syntax::trees::{first_tree, leading_tree};
 use std::alloc::Global;
 
-/// Returns the type that a rule's modifier gives, Normal where there is none, and the trees after the
+/// Returns the type that a rule's modifier gives, Normal if there is none, and the trees after the
 /// modifier.
 fn modifier(trees: &[TokenNode]) -> (RuleType, &[TokenNode])
     requires { MayBeModifier (named_trees_of trees.now) }
@@ -120,10 +120,10 @@ fn rules<'i>(
 /// Returns the pairs that the text spells for a rule of the meta-grammar, from its start on, as
 /// `PestParser::parse` does. The pairs of a whole grammar are those for `grammar_rules`.
 ///
-/// The rule may stop before the end, but where it asks for `EOI`. Positions in pairs and errors count
-/// bytes. Where the rule fails, the fault holds one `ParsingError`, at the greatest position at which a
-/// rule that gives a token, or `EOI`, was called and failed, in a mode other than Atomic and in any
-/// branch; at 0 where there is none. Any other fault is an allocation failure.
+/// The rule may stop before the end, unless it asks for `EOI`. Positions in pairs and errors count
+/// bytes. If the rule fails, the fault holds one `ParsingError`. Its position is the greatest one at which
+/// a rule that gives a token, or `EOI`, was called and failed. Calls in a mode other than Atomic count, in
+/// any branch. If there is none, the position is 0. Any other fault is an allocation failure.
 pub fn parse<'i>(alloc: Global, rule: Rule, text: &'i str) -> Result<Pairs<'i, Rule>, Fault>
     ensures text { IfOk result (λ pairs. pairs_text pairs ≡ text.entry.now) }
     ensures spelled { MatchResult result (AreSpelled rule) (ParseRefuses rule text.entry.now) }

@@ -1,4 +1,4 @@
-//! The restorer, which wraps expressions that may fail and change the stack, where an alternative is
+//! The restorer, which wraps expressions that may fail and change the stack, if an alternative is
 //! tried next.
 #![tactic(auto)]
 

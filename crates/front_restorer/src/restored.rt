@@ -18,7 +18,7 @@ use std::mem;
 /// The number of levels that are restored recursively; deeper ones are restored iteratively.
 pub(crate) const LEVELS: usize = 64;
 
-/// Restores an expression in place, where the rules of its names are listed from the index `place` on; no
+/// Restores an expression in place. The rules of its names are listed from the index `place` on. No
 /// node is rebuilt but for wrappers. At most `levels` levels recurse. Answers whether the expression then
 /// changes the stack. Both sides of a `~` or a `|` are tested before one is restored, so that memory
 /// gives both at once.
@@ -66,7 +66,7 @@ pub(crate) fn restore(
     }
 }
 
-// Restores an operand, and puts a wrapper round it where it then changes the stack.
+// Restores an operand, and puts a wrapper round it if it then changes the stack.
 #[cycle(restored)]
 fn restore_wrapped(
     alloc: Global,

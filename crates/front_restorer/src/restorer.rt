@@ -40,7 +40,7 @@ pub fn child_modifies_state(
 }
 
 /// Returns the rule with wrappers: from the inside out, each operand of `?`, `*` and `+` and both sides
-/// of each `|` are wrapped where they change the stack as they then are. `rules` holds the body of each
+/// of each `|` are wrapped if they change the stack as they then are. `rules` holds the body of each
 /// rule at its name, as it was before any was restored. Name and type stay, and so does each wrapper that
 /// is there already, with all that is below it. The only fault is an allocation failure.
 pub fn restore_on_err(
@@ -88,7 +88,7 @@ pub fn restore_rules(alloc: Global, rules: Vec<OptimizedRule>) -> Result<Vec<Opt
     Ok(rules.into_inner())
 }
 
-// Reports whether a `PUSH`, `PUSH_LITERAL`, `POP`, `POP_ALL` or `DROP` occurs in any rule; where none
+// Reports whether a `PUSH`, `PUSH_LITERAL`, `POP`, `POP_ALL` or `DROP` occurs in any rule. If none
 // does, no rule changes the stack.
 fn is_any_changing(alloc: Global, rules: &[OptimizedRule]) -> Result<bool, AllocError>
     ensures { IfOk result (λ yes. yes ≡ false → AreQuiet rules.now) }
@@ -133,7 +133,7 @@ fn is_changed(alloc: Global, changes: &Changes, expr: &OptimizedExpr) -> Result<
     Ok(is_shown(&numbers, share, &changes.flags))
 }
 
-// Puts wrappers into a rule, given the share of its body. Where the body changes nothing, the rule stays.
+// Puts wrappers into a rule, given the share of its body. If the body changes nothing, the rule stays.
 fn restore_rule(
     alloc: Global,
     changes: &Changes,

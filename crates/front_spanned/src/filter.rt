@@ -9,7 +9,7 @@ use base_language::runtime::Fault;
 use std::alloc::{AllocError, Global};
 
 impl<'i> ParserNode<'i> {
-    /// Collects the answers of `f` at this node and at all nodes below it, where it has one.
+    /// Collects the answers of `f` at this node and at all nodes below it, if it has one.
     ///
     /// `f` is called once at each node in preorder, left before right, with a copy of the node. The only
     /// error is allocation failure.
@@ -30,7 +30,7 @@ impl<'i> ParserNode<'i> {
     }
 }
 
-/// Appends the answers of `f` at `node` and at all nodes below it, where it has one, to `answers`.
+/// Appends the answers of `f` at `node` and at all nodes below it, if it has one, to `answers`.
 ///
 /// `f` is called once at each node in preorder, left before right, with a copy of the node, and may be
 /// called again afterwards. The only error is allocation failure; then `answers` is unchanged, and `f` is

@@ -40,25 +40,25 @@ pub enum ParserExpr<'i> {
     Ident(String),
     /// The texts from one index of the stack up to another, or up to its end: `PEEK[0..-1]`.
     PeekSlice(i32, Option<i32>),
-    /// Succeeds where the node succeeds, and takes nothing: `&e`.
+    /// Succeeds if the node succeeds, and takes nothing: `&e`.
     PosPred(Box<ParserNode<'i>>),
-    /// Succeeds where the node fails, and takes nothing: `!e`.
+    /// Succeeds if the node fails, and takes nothing: `!e`.
     NegPred(Box<ParserNode<'i>>),
     /// One node after another: `a ~ b`.
     Seq(Box<ParserNode<'i>>, Box<ParserNode<'i>>),
-    /// The first node, or the second where that fails: `a | b`.
+    /// The first node, or the second if that fails: `a | b`.
     Choice(Box<ParserNode<'i>>, Box<ParserNode<'i>>),
-    /// The node, or nothing where it fails: `e?`.
+    /// The node, or nothing if it fails: `e?`.
     Opt(Box<ParserNode<'i>>),
     /// The node as often as it succeeds: `e*`.
     Rep(Box<ParserNode<'i>>),
     /// The node as often as it succeeds, and at least once: `e+`.
     RepOnce(Box<ParserNode<'i>>),
-    /// So many times: `e{2}`.
+    /// Exactly this number of times: `e{2}`.
     RepExact(Box<ParserNode<'i>>, u32),
-    /// At least so many times: `e{2,}`.
+    /// At least this number of times: `e{2,}`.
     RepMin(Box<ParserNode<'i>>, u32),
-    /// At most so many times: `e{,2}`.
+    /// At most this number of times: `e{,2}`.
     RepMax(Box<ParserNode<'i>>, u32),
     /// From the first number of times to the second: `e{2, 3}`.
     RepMinMax(Box<ParserNode<'i>>, u32, u32),

@@ -13,7 +13,7 @@ ghost use Rattle.front_stack_domain.specs.Refuted.{peeked, peeked_twice, top, to
 ghost use Rattle.front_stack_domain.specs.Reports.{Route, IsPartAt, ReachesRoute, IsReport, IsCertain, NeverEnds, SkippingAltersStack, reading_in, reading_to_depth};
 ghost use Rattle.front_stack_domain.specs.Turns.{HasFewMarks, most_stacks, AreDistinct, KeepsFewMarks, TurnsEnd};
 
-/// Proves that every report is definite: its repetition has no greatest number, and no outcome where a
+/// Proves that every report is definite. Its repetition has no greatest number, and no outcome if a
 /// start of the rule reaches it on the reported route. That holds however many turns are followed, and
 /// whichever rules are taken for recursive.
 pub fn certain()
@@ -21,8 +21,8 @@ pub fn certain()
         → (a : AbstractStack) → IsReport limit turns recursive g e p r a → IsCertain g e p r a }
 {}
 
-/// Proves that where the part at a route has no outcome, nothing that reaches it has one, since there is at
-/// most one outcome from each start. So no start of a rule that reaches a definite repetition on its route
+/// Proves that if the part at a route has no outcome, nothing that reaches it has one. There is at most one
+/// outcome from each start. So no start of a rule that reaches a definite repetition on its route
 /// has an outcome, and no call of the rule.
 pub fn certain_never_ends()
     ensures parts { (g : Grammar) (classes : Classes) (m : Mode) (e p : Expression) (r : Route) (s t : State)
@@ -33,9 +33,9 @@ pub fn certain_never_ends()
         → IsCertain g e p r a → NeverEnds g e r }
 {}
 
-/// Proves that every span that the direct reading of a rule's body reports is that of a repetition in it
-/// that is reported on some route, and that certainly has no outcome where it is reached on that route, nor
-/// has a start that reaches it there, if the implicit whitespace leaves the stack alone.
+/// Proves what the direct reading of a rule's body reports, if the implicit whitespace leaves the stack
+/// alone. Every span is that of a repetition in the body that is reported on some route. The repetition
+/// certainly has no outcome when it is reached on that route, nor has a start that reaches it there.
 pub fn reported_is_certain()
     ensures { (limit turns : ℕ) (recursive : Text → Bool) (g : Grammar) (nullable : Spanned → Bool)
         → KnowsNullable g nullable → (SkippingAltersStack g → ⊥)

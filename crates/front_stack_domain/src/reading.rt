@@ -7,7 +7,7 @@ ghost use Rattle.front_stack_domain.specs.Views.{stack_of, possible, reading_of,
 
 use crate::stack::{Base, Stack};
 
-/// An abstract outcome: the stack after a success and after a failure, where they are possible, and whether
+/// An abstract outcome: the stack after a success and after a failure, if they are possible, and whether
 /// a success takes nothing.
 #[derive(Clone, Copy)]
 pub struct Reading {

@@ -111,7 +111,7 @@ fn place_of(trace: &[Walk], walk: Walk) -> Option<usize>
 }
 
 /// Returns the walk after `left` more copies, if none is left or the walk is in the trace already. No clause
-/// refuses `None` where some are left: it costs only time.
+/// refuses `None` if some are left: it costs only time.
 pub fn foreseen(trace: &[Walk], walk: Walk, left: usize) -> Option<Walk>
     ensures known { IfSome result (IsForeseen trace.now (walk_of walk) left) }
     ensures unknown { IfNone result (0 < left) }

@@ -50,7 +50,7 @@ struct Ways<'l> {
 }
 
 /// Sets the flag of the rule at the end of a link, if the rule at its beginning is the leader of both or
-/// has its flag set. Where flags mean rules that lead up to their leaders, the link is reversed.
+/// has its flag set. If flags mean rules that lead up to their leaders, the link is reversed.
 fn go_on<'n, 'i>(
     roots: &[usize],
     nodes: &[PassNode<'n, 'i>],

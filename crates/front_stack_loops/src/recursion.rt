@@ -15,7 +15,7 @@ use std::alloc::{AllocError, Global};
 pub struct Calls {
     /// For each rule whether it reaches itself.
     pub recursive: Vec<bool>,
-    /// For each node a number: not below those of its operands, and above that of a body that it calls, where
+    /// For each node a number: not below those of its operands, and above that of a body that it calls, if
     /// the rule that is called doesn't reach itself.
     pub ranks: Vec<usize>,
 }
@@ -44,7 +44,7 @@ fn parts_fall(ranks: &[usize], node: usize, parts: Parts) -> bool
     }
 }
 
-/// Whether the body of a rule that is called at a node has no higher rank, and a lower one where the call is
+/// Whether the body of a rule that is called at a node has no higher rank, and a lower one if the call is
 /// followed.
 fn call_falls(
     roots: &[usize],
@@ -105,7 +105,7 @@ fn bit(flag: bool) -> usize
     if flag { 1 } else { 0 }
 }
 
-/// Returns the ranks, each raised by one where its flag is set.
+/// Returns the ranks, each raised by one if its flag is set.
 fn raise_ranks(
     alloc: Global,
     ranks: &[usize],

@@ -40,8 +40,8 @@ use std::alloc::{AllocError, Global};
 /// The number of abstract stacks.
 const ABSTRACT_STACKS: usize = 3066;
 
-/// The greatest number of turns of a repetition that are followed; among so many, one starts from a stack
-/// that was seen.
+/// The greatest number of turns of a repetition that are followed. Among this number of turns, one
+/// starts from a stack that was seen.
 const MOST_TURNS: usize = ABSTRACT_STACKS + 1;
 
 /// The number of turns that the loop search follows.
@@ -195,8 +195,8 @@ fn want(wanted: &mut Vec<bool>, rule: usize) {
     }
 }
 
-/// Flags a rule in whose body something may be reported; if a rule is flagged, flags the rules that it
-/// calls, where these calls are followed.
+/// Flags a rule in whose body something may be reported. If a rule is flagged, flags the rules that it
+/// calls by calls that are followed.
 fn want_with_calls<'n, 'i>(
     table: &Table<'n, 'i>,
     reportable: &[bool],
@@ -268,7 +268,7 @@ fn read_wanted<'n, 'i>(
     Ok(())
 }
 
-/// Appends the repetitions that are reported in a body, where something may be.
+/// Appends the repetitions that are reported in a body, if something may be.
 fn visit_body<'n, 'i>(
     alloc: Global,
     table: &Table<'n, 'i>,

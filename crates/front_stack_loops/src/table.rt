@@ -119,7 +119,7 @@ pub struct Table<'n, 'i> {
     pub roots: Vec<usize>,
     /// Which rules reach themselves; calls of them are not followed.
     pub recursive: Vec<bool>,
-    /// For each node a number: not below those of its operands, and above that of a body that it calls, where
+    /// For each node a number: not below those of its operands, and above that of a body that it calls, if
     /// the call is followed.
     pub ranks: Vec<usize>,
     /// Which nodes may succeed without taking anything.

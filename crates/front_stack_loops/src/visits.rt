@@ -191,8 +191,8 @@ pub struct Pending {
     pub stacks: Vec<Stack>,
 }
 
-/// Appends a repetition, where it is endless and what is repeated has a loop from one of the stacks and
-/// takes something if its parts do.
+/// Appends a repetition if it is endless, and what is repeated has a loop from one of the stacks and
+/// takes something when its parts do.
 fn report<'n, 'i>(
     alloc: Global,
     table: &Table<'n, 'i>,

@@ -14,7 +14,7 @@ use front_nodes::nodes::{FirstTree, TokenNode};
 use matcher_code::state::TreeNode;
 use std::alloc::{AllocError, Global};
 
-/// Returns the first of the trees of these nodes, or `None` where there is no tree.
+/// Returns the first of the trees of these nodes, or `None` if there is no tree.
 #[inline(always)]
 pub fn first_tree(trees: &[TokenNode]) -> Option<FirstTree<'_>>
     ensures { MatchOption result (of_nodes.named_trees_of trees.entry.now ≡ spec.None')
@@ -57,7 +57,7 @@ fn take_size(sizes: &mut Vec<usize>, nodes: usize) -> Option<usize>
     sizes.pop()
 }
 
-/// Takes off the last sizes of trees, until they cover so many nodes, and counts them.
+/// Takes off the last sizes of trees, until they cover `nodes` nodes, and counts them.
 fn take_sizes(sizes: &mut Vec<usize>, nodes: usize) -> usize
     ensures count { result ≡ length (first_sizes nodes (reverse sizes.old.items)) }
     ensures others { reverse sizes.new.items ≡ other_sizes nodes (reverse sizes.old.items) }

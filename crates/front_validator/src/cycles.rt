@@ -1,7 +1,7 @@
 //! Reports whether some rule is left-recursive, by a topological order of the left calls. A depth-first
-//! search numbers the nodes, and a linear pass checks the numbers as a certificate: where every left call
-//! leads to a lower number, no cycle exists. Where a cycle exists, levels in place of the order decide
-//! which rules are on none: no left call leads to a higher level, and those of such a rule lead to lower
+//! search numbers the nodes, and a linear pass checks the numbers as a certificate. If every left call
+//! leads to a lower number, no cycle exists. If a cycle exists, levels in place of the order decide
+//! which rules are on none. No left call leads to a higher level, and those of such a rule lead to lower
 //! ones.
 ghost use Rattle.std.specs.Prelude.{◌≡◌, ◌<◌, ◌+◌, IfOk, List, true};
 ghost use Rattle.base_language.specs.Language.Text.{Text};

@@ -28,7 +28,7 @@ fn unset(all: &mut [bool], noted: &[usize])
 }
 
 impl Flags {
-    /// Makes as many flags, none of which is set.
+    /// Makes `count` flags, none of which is set.
     pub(crate) fn new(alloc: Global, count: usize) -> Result<Flags, AllocError>
         ensures long { IfOk result (λ flags. length flags.all.items ≡ count) }
         ensures none { IfOk result (λ flags. NoneSet flags.all.items) }

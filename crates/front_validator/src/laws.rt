@@ -13,17 +13,17 @@ ghost use Rattle.front_validator.specs.Walk.{WalkLeads};
 ghost use Rattle.front_validator.specs.Reported.{AreReported};
 ghost use Rattle.front_validator.specs.Reports.{Reported};
 
-/// Left calls have no cycle where no walk comes back to its rule.
+/// Left calls have no cycle if no walk comes back to its rule.
 pub fn no_walk_no_cycle()
     ensures { (g : Grammar) → ((n : Text) → WalkLeads g n n → ⊥) → (n : Text) → Leads g n n → ⊥ }
 {}
 
-/// No walk comes back to its rule where left calls have no cycle.
+/// No walk comes back to its rule if left calls have no cycle.
 pub fn no_cycle_no_walk()
     ensures { (g : Grammar) → ((n : Text) → Leads g n n → ⊥) → (n : Text) → WalkLeads g n n → ⊥ }
 {}
 
-/// A grammar is well-formed where nothing is reported.
+/// A grammar is well-formed if nothing is reported.
 pub fn accepted_is_well_formed()
     ensures { (g : Grammar) → (Reported g → ⊥) → IsWellFormed g }
 {}

@@ -64,7 +64,7 @@ fn all_rest(facts: &Facts, levels: &[usize]) -> bool
     true
 }
 
-/// Computes levels by the nodes that decide whether a node may take nothing. Where the check fails, there
+/// Computes levels by the nodes that decide whether a node may take nothing. If the check fails, there
 /// are none.
 pub(crate) fn levels_of(alloc: Global, facts: &Facts) -> Result<Vec<usize>, AllocError>
     ensures { IfOk result (λ levels. AllRest facts.now levels.items) }
@@ -76,7 +76,7 @@ pub(crate) fn levels_of(alloc: Global, facts: &Facts) -> Result<Vec<usize>, Allo
     Ok(Vec::new(alloc))
 }
 
-/// Computes levels by left calls. Where the check fails, there are none.
+/// Computes levels by left calls. If the check fails, there are none.
 pub(crate) fn left_levels(alloc: Global, facts: &Facts) -> Result<Vec<usize>, AllocError>
     ensures { IfOk result (λ levels. NoneRises facts.now levels.items) }
 {

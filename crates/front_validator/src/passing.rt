@@ -1,4 +1,4 @@
-//! Nullability of all nodes where a call of a node's own rule takes something, as least fixpoints.
+//! Nullability of all nodes when a call of a node's own rule takes something, as least fixpoints.
 ghost use Rattle.std.specs.Prelude.{◌≡◌, ℕ, ◌+◌, ◌<◌, ◌≤◌, Some, true, false, IfOk, List, OnOk, length, slice_get};
 ghost use Rattle.base_graphs.specs.Least.{is_set_at};
 ghost use Rattle.front_spanned.specs.declared.node.ParserRule.{ParserRule};
@@ -14,7 +14,7 @@ use base_graphs::{find_listeners, is_set};
 use front_analysis::{Facts, KindTable, NodeKind, Question, answers_to};
 use std::alloc::{AllocError, Global};
 
-/// Returns the kind of a node where calls of a rule count as neither.
+/// Returns the kind of a node when calls of a rule count as neither.
 fn kind_without(kind: NodeKind, rule: usize) -> NodeKind
     ensures { result ≡ without_kind rule kind }
 {
@@ -31,7 +31,7 @@ fn kind_without(kind: NodeKind, rule: usize) -> NodeKind
     }
 }
 
-/// Makes the table where calls of a rule count as neither.
+/// Makes the table in which calls of a rule count as neither.
 fn table_without(alloc: Global, table: &KindTable, rule: usize) -> Result<KindTable, AllocError>
     ensures { IfOk result (λ other. IsWithout rule table.now other) }
 {
@@ -46,7 +46,7 @@ fn table_without(alloc: Global, table: &KindTable, rule: usize) -> Result<KindTa
     Ok(KindTable { kinds, roots })
 }
 
-/// Computes which nodes may take nothing where calls of a rule count as neither.
+/// Computes which nodes may take nothing when calls of a rule count as neither.
 fn answers_without(alloc: Global, facts: &Facts, rule: usize) -> Result<Vec<bool>, AllocError>
     ensures { IfOk result (λ answers. AreAnswersWithout rule facts.now.table answers.items) }
 {
@@ -108,7 +108,7 @@ fn are_settled(facts: &Facts, levels: &[usize], rule: usize, first: usize, root:
     true
 }
 
-/// Computes whether a node of a rule's body may take nothing where calls of the rule count as neither,
+/// Computes whether a node of a rule's body may take nothing when calls of the rule count as neither,
 /// from the flags of its operands.
 fn own_flag(facts: &Facts, rule: usize, flags: &[bool], kind: NodeKind) -> bool
     ensures { result ≡ own_answer facts.now rule (is_set_at flags.now) kind }
@@ -193,8 +193,8 @@ fn add_answers(
     Ok(())
 }
 
-/// Adds the flags of the nodes of a rule's body. Only where the rule may take nothing do they differ from
-/// the facts. All nodes are needed only where the rule leads back to itself by other rules that may take
+/// Adds the flags of the nodes of a rule's body. Only if the rule may take nothing do they differ from
+/// the facts. All nodes are needed only if the rule leads back to itself by other rules that may take
 /// nothing.
 fn add_rule(
     alloc: Global,
@@ -219,7 +219,7 @@ fn add_rule(
     add_answers(alloc, facts, rule, root, flags)
 }
 
-/// Computes which nodes may take nothing where a call of the rule in whose body they are takes something.
+/// Computes which nodes may take nothing if a call of the rule in whose body they are takes something.
 pub(crate) fn passing(alloc: Global, facts: &Facts) -> Result<Vec<bool>, AllocError>
     ensures { IfOk result (λ flags. (rules : List ParserRule) → AreFacts rules facts.now
         → ArePassing rules facts.now.table.roots.items flags.items) }

@@ -197,7 +197,7 @@ fn walk_node(
     Ok(false)
 }
 
-/// Makes a walk over as many rules, not begun.
+/// Makes a walk over `rules`, not begun.
 fn idle<'i>(alloc: Global, rules: &[ParserRule<'i>]) -> Result<Walk, AllocError>
     ensures { IfOk result (λ walk. IsIdle rules.now walk) }
 {
@@ -436,7 +436,7 @@ fn closed_trails<'i>(
     Ok(found)
 }
 
-/// Collects the findings of left recursion, at most one for a name. Where left calls have no cycle, which
+/// Collects the findings of left recursion, at most one for a name. If left calls have no cycle, which
 /// a linear pass proves, there are none. Otherwise the search begins at every rule that is the last of
 /// its name and on a cycle.
 pub(crate) fn recursions<'i>(

@@ -109,7 +109,7 @@ pub fn findings_in<'i>(
     Ok(found)
 }
 
-/// Makes the error that reports a finding; the survey makes it where the finding is in its text.
+/// Makes the error that reports a finding. If the finding is in the text of the survey, the survey makes it.
 fn error_of<'i>(
     alloc: Global,
     survey: &mut Survey<'_>,
@@ -125,7 +125,7 @@ fn error_of<'i>(
     Ok(error)
 }
 
-/// Returns the text of the first finding, which is that of all of them where they are in one text.
+/// Returns the text of the first finding, which is that of all of them if they are in one text.
 fn first_text<'i>(found: &[RuleFinding<'i>]) -> &'i str {
     match found.first() {
         Some(finding) => finding.span.get_input(),

@@ -16,10 +16,10 @@ use front_analysis::{Analysis, Question, analyze, answer_for};
 use front_spanned::{ParserExpr, ParserRule};
 use std::alloc::Global;
 
-/// Reports whether an expression may succeed without taking anything, where its names mean these rules
-/// (the last of a name): empty strings, `SOI`, `EOI`, predicates, `e?`, `e*`, `e{,n}` and repetitions
-/// from 0 times on may; a sequence where both sides may, a choice where one side may, a call where the
-/// rule's body may, and all else where its operand may. The only fault is an allocation failure.
+/// Reports whether an expression may succeed without taking anything. Its names mean these rules (the
+/// last of a name). Empty strings, `SOI`, `EOI`, predicates, `e?`, `e*`, `e{,n}` and repetitions from 0
+/// times on may. So may a sequence if both sides may, and a choice if one side may. A call may if the
+/// rule's body may, and all else may if its operand may. The only fault is an allocation failure.
 pub fn is_non_progressing<'i>(
     alloc: Global,
     expr: &ParserExpr<'i>,
@@ -32,10 +32,10 @@ pub fn is_non_progressing<'i>(
     Ok(answer_for(alloc, expr, rules.as_slice(), Question::TakesNothing)?)
 }
 
-/// Reports whether an expression cannot fail, where its names mean these rules (the last of a name):
-/// empty strings, `e?`, `e*`, `e{,n}` and repetitions from 0 times on cannot; nor a sequence where both
-/// sides can't, a choice where one side can't, a call where the rule's body can't, and all else but `!e`
-/// where its operand can't. The only fault is an allocation failure.
+/// Reports whether an expression cannot fail. Its names mean these rules (the last of a name). Empty
+/// strings, `e?`, `e*`, `e{,n}` and repetitions from 0 times on cannot. Nor can a sequence if both sides
+/// can't, or a choice if one side can't. Nor can a call if the rule's body can't, or all else but `!e` if
+/// its operand can't. The only fault is an allocation failure.
 pub fn is_non_failing<'i>(
     alloc: Global,
     expr: &ParserExpr<'i>,
@@ -89,8 +89,8 @@ pub fn validate_by<'i>(
     errors_of(alloc, found.as_slice())
 }
 
-/// Returns the errors of `validate_rules` where all spans of the rules, and those of `endless`, are of
-/// one text: one walk over it finds the locations of all errors. The only fault is an allocation failure.
+/// Returns the errors of `validate_rules` if all spans of the rules, and those of `endless`, are of
+/// one text. One walk over it finds the locations of all errors. The only fault is an allocation failure.
 pub fn validate_rules_in<'i>(
     alloc: Global,
     text: &str,

@@ -80,7 +80,7 @@ fn notes_on(alloc: Global, choice: &UnreachableChoice<'_>) -> Result<Vec<Related
     Ok(notes)
 }
 
-/// That so many further alternatives are never taken.
+/// That `count` further alternatives are never taken.
 fn count_message(alloc: Global, count: usize) -> Result<String, AllocError> {
     if count == 1 {
         return String::from_str(alloc, "this alternative is unreachable too");

@@ -8,7 +8,7 @@ use lint_hints::{Fix, Help, Related, definitions, nearest_name};
 use std::alloc::{AllocError, Global};
 use std::collections::HashMap;
 
-/// Undefined names for which another is looked for, at most so many in a text.
+/// The greatest number of undefined names in a text for which another is looked for.
 const NAMES_LOOKED_UP: usize = 20;
 
 /// The definitions of a text.

@@ -25,7 +25,7 @@ pub struct Fix {
     pub title: String,
 }
 
-/// How a mistake may be mended, and the replacement that does so where one is definite.
+/// How a mistake may be mended, and the replacement that does so if one is definite.
 #[derive(Debug, Drop, PartialEq, Eq)]
 pub struct Help {
     pub message: String,
@@ -40,7 +40,7 @@ pub struct Related {
     pub message: String,
 }
 
-/// A help where the mistake is known, and the positions that matter to it.
+/// A help if the mistake is known, and the positions that matter to it.
 #[derive(Drop)]
 pub struct Hint {
     pub mistake: Option<Mistake>,
@@ -48,7 +48,7 @@ pub struct Hint {
     pub related: Vec<Related>,
 }
 
-/// A known mistake, and the replacement that mends it where one is definite.
+/// A known mistake, and the replacement that mends it if one is definite.
 #[derive(Drop)]
 pub(crate) struct Remedy {
     pub mistake: Mistake,

@@ -28,7 +28,7 @@ use lint_lexemes::{LexemeClass, Site};
 pub use lint_lexemes::{definitions, nearest_name};
 use std::alloc::{AllocError, Global};
 
-/// A hint for the syntax error of a text at a byte. A mistake is only known where the lexemes around the byte
+/// A hint for the syntax error of a text at a byte. A mistake is only known if the lexemes around the byte
 /// show it, and the help is that of the mistake. The time is linear in the text.
 pub fn hint_at(alloc: Global, text: &str, position: usize) -> Result<Hint, AllocError>
     ensures { IfOk result (λ hint. IsSome hint.mistake ↔ IsSome hint.help) }

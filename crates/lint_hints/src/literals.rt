@@ -111,7 +111,7 @@ pub(crate) fn at_character(
     crate::terms::at_term(alloc, site)
 }
 
-/// The remedy of a character in single quotes that is before the error, where no range goes on.
+/// The remedy of a character in single quotes that is before the error, if no range goes on.
 pub(crate) fn after_character(
     alloc: Global,
     site: &Site<'_>,

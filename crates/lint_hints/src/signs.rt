@@ -166,7 +166,7 @@ fn at_bracket(alloc: Global, site: &Site<'_>, here: Lexeme) -> Result<Option<Rem
     replace(alloc, mistake, here.start, class.end, text.as_str())
 }
 
-/// The `~` that an expression at a lexeme needs, with blanks; nothing where none ends before it.
+/// The `~` that an expression at a lexeme needs, with blanks; nothing if none ends before it.
 fn tilde_before(site: &Site<'_>, here: Lexeme) -> &'static str {
     let before = site.previous_lexeme(1);
     if !ends_term(before) {
@@ -223,7 +223,7 @@ fn at_infix(alloc: Global, site: &Site<'_>, here: Lexeme) -> Result<Option<Remed
     Ok(say(SignMistake::MissingBefore))
 }
 
-/// The bytes that go with a sign: the blank after it, too, where one is before it.
+/// The bytes that go with a sign: the blank after it, too, if one is before it.
 fn removed_bytes(site: &Site<'_>, sign: Lexeme) -> (usize, usize) {
     let is_between = site.byte(sign.start.saturating_sub(1)) == b' ' && site.byte(sign.end) == b' ';
     if is_between {

@@ -105,7 +105,7 @@ fn is_apart(site: &Site<'_>, before: Lexeme) -> bool {
     is_operator && site.previous_lexeme(2).end < before.start && before.end < site.here().start
 }
 
-/// The remedy where the name before the error says what was meant: a tag, a modifier, or a builtin that takes
+/// The remedy if the name before the error says what was meant: a tag, a modifier, or a builtin that takes
 /// parentheses or none.
 fn after_name(alloc: Global, site: &Site<'_>) -> Result<Option<Remedy>, AllocError> {
     let before = site.previous_lexeme(1);
@@ -265,7 +265,7 @@ fn has_other_dot(site: &Site<'_>) -> bool {
     is_sign(site.here(), b'.') && is_sign(site.next_lexeme(1), b'.')
 }
 
-/// The remedy at the end of the text, where brackets are open.
+/// The remedy at the end of the text, if brackets are open.
 pub(crate) fn at_end(alloc: Global, site: &Site<'_>) -> Result<Option<Remedy>, AllocError> {
     let last = site.previous_lexeme(1);
     if last.class == LexemeClass::OpenText {

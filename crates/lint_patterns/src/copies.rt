@@ -86,7 +86,7 @@ fn look_at<'n, 'i>(
     Ok(())
 }
 
-/// The product of two numbers of copies, where it is not many.
+/// The product of two numbers of copies, if it is not many.
 fn few_copies(around: u64, count: u64) -> Option<u64>
     ensures { SomeIff result (around * count < 10000) (around * count) }
 {

@@ -19,7 +19,7 @@ use std::alloc::{AllocError, Global};
 use std::collections::HashSet;
 
 /// The spans of the names of rules in which pest runs a list `(x ~ y)* ~ x` as `x ~ (y ~ x)*`, which matches
-/// where no `x` follows the last `y`, too. Lists with an `x` that cannot fail do not count, and Atomic rules
+/// if no `x` follows the last `y`, too. Lists with an `x` that cannot fail do not count, and Atomic rules
 /// with a `(!c ~ n)*` are not looked at. Nor are rules that together have more than 1,000,000 nodes if each
 /// counted repetition is written out. The time is that of the optimizer.
 ///
@@ -51,7 +51,7 @@ fn find_lists<'i>(alloc: Global, rules: &[ParserRule<'i>]) -> Result<Vec<Span<'i
     Ok(found)
 }
 
-/// Adds the span of a rule's name, where pest runs a list of the rule otherwise; `optional`: the names of
+/// Adds the span of a rule's name, if pest runs a list of the rule otherwise. `optional`: the names of
 /// rules that cannot fail.
 fn add_where_rewritten<'i>(
     alloc: Global,

@@ -1,4 +1,4 @@
-//! Sizes of rules where counts are written out.
+//! Sizes of rules when counts are written out.
 ghost use Rattle.std.specs.Prelude.{◌≡◌, ◌+◌, ◌-◌, ◌*◌, ◌<◌, ◌≤◌, IfOk, false, nat_lt, true};
 ghost use Rattle.std.specs.Option.{SomeIff};
 ghost use Rattle.lint_patterns.specs.Copies.{size};

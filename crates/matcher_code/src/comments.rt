@@ -1,4 +1,4 @@
-//! Comments within comments. Where all are closed, a count of those that are open finds the end. Where one is
+//! Comments within comments. If all are closed, a count of those that are open finds the end. If one is
 //! left open, the text that opens it is a part of the comment around it, which no pass from the start can
 //! know: so a pass from the end of the text back counts, for each position, the texts that close comments
 //! around it.
@@ -15,7 +15,7 @@ use crate::reading::{match_bytes, text_of};
 #[derive(Clone, Copy)]
 struct Closings {
     count: usize,
-    /// The end of that one which has a number, where the outermost has the number 1.
+    /// The end of the comment with the number asked for; the outermost comment has the number 1.
     end: usize,
 }
 

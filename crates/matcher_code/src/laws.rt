@@ -25,7 +25,7 @@ ghost use Rattle.matcher_code.specs.Reached.{Comes, IsAt, IsGuarded, MayAsk};
 ghost use Rattle.matcher_code.specs.Results.{HasAttempts, HasFailed, HasSucceeded, start_config, start_of, traced_start};
 ghost use Rattle.matcher_code.specs.Sizes.{least_steps, size};
 
-/// Where the operation 0 is `Fail` and each point of a list is laid by points of the list, the code of a
+/// If the operation 0 is `Fail` and each point of a list is laid by points of the list, the code of a
 /// point does its task: from each state, and for each outcome of the task there, the machine comes to where
 /// the outcome goes on, with its trees, the furthest position of its failures and the rows of the names that
 /// are expected where they are asked for, in at most eight steps for each rule of the relation of matching
@@ -93,7 +93,7 @@ pub fn runs_have_attempts()
         → HasAttempts g classes number k text (steps code text m (traced_start l asked)) }
 {}
 
-/// A call of a rule comes to `PEEK` or `POP` on the empty stack only where a rule calls that.
+/// A call of a rule comes to `PEEK` or `POP` on the empty stack only if a rule calls that.
 pub fn only_rules_read_stack()
     ensures { (g : Grammar) (classes : Classes) (m k : Mode) (n x : Text) (r : Rule) → rule_of g n ≡ Some r
         → (s t : State) (i : ℕ) → ComesTo g classes (Run m (Ident n)) s i (Run k (Ident x)) t
@@ -106,7 +106,7 @@ pub fn paths_end_in_expected_names()
         → (d : Does g classes k s o) → map last_name (paths_at place d) ≡ expected_at place d }
 {}
 
-/// Where the operation 0 is `Fail`, the operation `Text` of a text matches it as the expression of a literal
+/// If the operation 0 is `Fail`, the operation `Text` of a text matches it as the expression of a literal
 /// does.
 pub fn text_operation_matches_literal()
     ensures { (code : CodeLists) (number : Text → ℕ) → op_at code [] 0 ≡ op.Fail
@@ -114,7 +114,7 @@ pub fn text_operation_matches_literal()
         → Performs code number l n w (text_outcome nat_eq (chars b)) in_silence }
 {}
 
-/// Where the operation 0 is `Fail`, the operation `AnyCase` of a text matches it as a literal in any case
+/// If the operation 0 is `Fail`, the operation `AnyCase` of a text matches it as a literal in any case
 /// does.
 pub fn any_case_operation_matches_literal()
     ensures { (code : CodeLists) (number : Text → ℕ) → op_at code [] 0 ≡ op.Fail
@@ -122,7 +122,7 @@ pub fn any_case_operation_matches_literal()
         → Performs code number l n w (text_outcome eq_ignore_ascii_case (chars b)) in_silence }
 {}
 
-/// Where the operation 0 is `Fail`, three operations `Text` match a newline: of a line feed, of a carriage
+/// If the operation 0 is `Fail`, three operations `Text` match a newline: of a line feed, of a carriage
 /// return before one, and of a carriage return.
 pub fn text_operations_match_newline()
     ensures { (code : CodeLists) (number : Text → ℕ) → op_at code [] 0 ≡ op.Fail → (l j k n w : ℕ)
@@ -130,7 +130,7 @@ pub fn text_operations_match_newline()
         → MatchesText code k (codes "\r") n w → Performs code number l n w newline_outcome in_silence }
 {}
 
-/// Where the operation 0 is `Fail`, the operation `Until` of some texts goes on to the first of them.
+/// If the operation 0 is `Fail`, the operation `Until` of some texts goes on to the first of them.
 pub fn until_operation_finds_text()
     ensures { (code : CodeLists) (firsts list : ℕ) (ts : List Text) → Searches code firsts list ts
         → (number : Text → ℕ) → op_at code [] 0 ≡ op.Fail → (l n w : ℕ)
@@ -138,7 +138,7 @@ pub fn until_operation_finds_text()
         → Performs code number l n w (λ s. Success (moved (distance ts s.rest) s) None') in_silence }
 {}
 
-/// Where the operation 0 is `Fail`, the operation `Nested` of two texts, not empty and of fewer than 256
+/// If the operation 0 is `Fail`, the operation `Nested` of two texts, not empty and of fewer than 256
 /// bytes, takes a comment.
 pub fn nested_operation_takes_comment()
     ensures { (code : CodeLists) (number : Text → ℕ) → op_at code [] 0 ≡ op.Fail
@@ -148,7 +148,7 @@ pub fn nested_operation_takes_comment()
         → Performs code number l n w (comment_outcome (chars opening) (chars closing)) in_silence }
 {}
 
-/// Where nothing is skipped, the body of a rule `opening ~ (name | !closing ~ any)* ~ closing`, whose calls
+/// If nothing is skipped, the body of a rule `opening ~ (name | !closing ~ any)* ~ closing`, whose calls
 /// give no token, takes a comment, with the comments within it; so the operation `Nested` does its task.
 pub fn comment_rule_takes_comment()
     ensures { (g : Grammar) (classes : Classes) (m : Mode) (name : Text) (r : Rule)
@@ -159,28 +159,28 @@ pub fn comment_rule_takes_comment()
         → HasOutcome g classes (Run m r.body) (comment_outcome opening closing) in_silence }
 {}
 
-/// Where the operation 0 is `Fail`, the operation `One` of a set matches one character of it.
+/// If the operation 0 is `Fail`, the operation `One` of a set matches one character of it.
 pub fn one_operation_matches_character()
     ensures { (code : CodeLists) (set : ℕ) (ranges : List (ℕ × ℕ)) → IsSetOf code set ranges
         → (number : Text → ℕ) → op_at code [] 0 ≡ op.Fail → (l n w : ℕ) → op_at code [] l ≡ op.One set n w
         → Performs code number l n w (character_outcome (is_covered ranges)) in_silence }
 {}
 
-/// Where the operation 0 is `Fail`, the operation `All` of a set matches the characters of it that follow.
+/// If the operation 0 is `Fail`, the operation `All` of a set matches the characters of it that follow.
 pub fn all_operation_matches_span()
     ensures { (code : CodeLists) (set : ℕ) (ranges : List (ℕ × ℕ)) → IsSetOf code set ranges
         → (number : Text → ℕ) → op_at code [] 0 ≡ op.Fail → (l n w : ℕ) → op_at code [] l ≡ op.All set n
         → Performs code number l n w (skip_set (is_covered ranges)) in_silence }
 {}
 
-/// Where the operation 0 is `Fail`, the operation `Start` matches at the start of a text alone.
+/// If the operation 0 is `Fail`, the operation `Start` matches at the start of a text alone.
 pub fn start_operation_matches_start()
     ensures { (code : CodeLists) (number : Text → ℕ) → op_at code [] 0 ≡ op.Fail
         → (l n w : ℕ) → op_at code [] l ≡ op.Start n w
         → Performs code number l n w (λ s. if s.position == 0 then Success s None' else Failure) in_silence }
 {}
 
-/// Where the operation 0 is `Fail`, the operation `End` matches at the end of a text alone, as `EOI` does in
+/// If the operation 0 is `Fail`, the operation `End` matches at the end of a text alone, as `EOI` does in
 /// Atomic.
 pub fn end_operation_matches_end()
     ensures { (code : CodeLists) (number : Text → ℕ) → op_at code [] 0 ≡ op.Fail
@@ -188,7 +188,7 @@ pub fn end_operation_matches_end()
         → Performs code number l n w (λ s. end_outcome AtomicMode s.rest s) in_silence }
 {}
 
-/// Where the operation 0 is `Fail`, the operations `End`, `Leaf` and `Miss` match the end of a text as
+/// If the operation 0 is `Fail`, the operations `End`, `Leaf` and `Miss` match the end of a text as
 /// `EOI` does in a mode that gives its tree.
 pub fn end_operations_give_tree()
     ensures { (code : CodeLists) (number : Text → ℕ) → op_at code [] 0 ≡ op.Fail
@@ -199,7 +199,7 @@ pub fn end_operations_give_tree()
         (λ asked s. end_failures asked s (end_outcome m s.rest s)) }
 {}
 
-/// Where the operation 0 is `Fail`, the operations on the stack match what the expressions do. `Peek` and
+/// If the operation 0 is `Fail`, the operations on the stack match what the expressions do. `Peek` and
 /// `Pop` stay where they are on the empty stack, where `PEEK` and `POP` have no outcome.
 pub fn stack_operations_match_stack()
     ensures push_text { (code : CodeLists) (number : Text → ℕ) → op_at code [] 0 ≡ op.Fail
@@ -234,7 +234,7 @@ pub fn choice_matches_union()
         → HasOutcome g classes (Run m (Choice a b)) (character_outcome (λ c. f c || h c)) in_silence }
 {}
 
-/// Where nothing is skipped, `!a ~ b` of two such expressions matches one character of the second set that is
+/// If nothing is skipped, `!a ~ b` of two such expressions matches one character of the second set that is
 /// not of the first.
 pub fn negation_matches_difference()
     ensures { (g : Grammar) (classes : Classes) (m : Mode) (a b : Expression) (f h : ℕ → Bool)
@@ -244,7 +244,7 @@ pub fn negation_matches_difference()
         (character_outcome (λ c. not (f c) && h c)) in_silence }
 {}
 
-/// Where nothing is skipped, a repetition of such an expression matches the characters of the set that
+/// If nothing is skipped, a repetition of such an expression matches the characters of the set that
 /// follow.
 pub fn repetition_matches_span()
     ensures { (g : Grammar) (classes : Classes) (m : Mode) (e : Expression) (f : ℕ → Bool)

@@ -267,8 +267,8 @@ impl<'p> Plan<'p> {
     }
 
     /// Returns whether the body of a rule that gives no token is laid in the place of a call: if it is
-    /// small, not inside itself, and only so many inside one another. So a program grows by a constant for
-    /// each form.
+    /// small, not inside itself, and inside at most `MOST_INSIDE` others. So a program grows by a constant
+    /// for each form.
     fn is_placed(&self, row: &Row, rule: usize, at: Place) -> bool {
         let mode = body_mode(row.kind, row.blank, at.mode);
         self.sizes.is_small(row, rule, mode) && self.is_outside(rule, at)

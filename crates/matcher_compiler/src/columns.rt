@@ -61,8 +61,8 @@ struct Columns<'a> {
     labels: &'a [u32],
 }
 
-/// Returns whether a failure of the first alternative of a choice is recorded at a label, where the second
-/// one leads on to another, or begins there.
+/// Returns whether a failure of the first alternative of a choice is recorded at the label `to`. The second
+/// one leads on to `next`, or begins there.
 fn is_noted_from(code: &Code, branch: Branch, next: u32, to: u32) -> bool
     ensures { result ≡ true → (first_set : Option ℕ) → Skips (lists_of code.now) first_set branch.second next
         → Notes (lists_of code.now) first_set branch.second branch.next branch.on_fail to }
@@ -78,7 +78,7 @@ fn is_noted_from(code: &Code, branch: Branch, next: u32, to: u32) -> bool
     }
 }
 
-/// Returns the label at which the operation of a label goes on for a first byte, or the label itself where
+/// Returns the label at which the operation of a label goes on for a first byte, or the label itself if
 /// that does more.
 fn lead_of(code: &Code, label: u32, here: Op, byte: u8) -> u32
     ensures { at_label (lists_of code.now) label ≡ here
@@ -99,7 +99,7 @@ fn is_test(here: Op) -> bool {
 }
 
 /// Returns for each first byte, from one to before another, the label at which the operation of a label goes
-/// on, or the label itself where that does more.
+/// on, or the label itself if that does more.
 fn leads_of(code: &Code, label: u32, here: Op, from: u32, to: u32) -> [u32; 256]
     requires to { to ≤ 256 }
     ensures { at_label (lists_of code.now) label ≡ here → (b : ℕ) → from ≤ b → b < to
@@ -115,9 +115,8 @@ fn leads_of(code: &Code, label: u32, here: Op, from: u32, to: u32) -> [u32; 256]
     leads
 }
 
-/// Returns whether the table of a choice has the labels for some first bytes, from one to before another,
-/// where a failure of the first alternative is not recorded. `others`: the labels to which the second one
-/// leads.
+/// Returns whether the table of a choice has the labels for some first bytes, from `from` to before `to`.
+/// A failure of the first alternative is not recorded. `others`: the labels to which the second one leads.
 fn has_plain_labels(
     code: &Code,
     branch: Branch,
@@ -150,7 +149,7 @@ fn has_plain_labels(
     true
 }
 
-/// Returns whether the table of a choice has the labels for some first bytes, as `has_plain_labels`, where a
+/// Returns whether the table of a choice has the labels for some first bytes, as `has_plain_labels`, if a
 /// failure of the first alternative is recorded.
 fn has_noted_labels(
     code: &Code,

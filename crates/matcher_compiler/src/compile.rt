@@ -159,7 +159,7 @@ fn skips_with(comments: bool, set: u32) -> Skips
     }
 }
 
-/// Returns a plan without points where the rules of blanks and comments are called.
+/// Returns a plan without points, if the rules of blanks and comments are called.
 fn call_plan<'p>(alloc: Global, program: &Program) -> Result<Plan<'p>, NotCompiled>
     ensures empty { IfOk result IsEmpty }
     ensures ready { IfOk result (IsReady program.now) }
@@ -173,7 +173,7 @@ fn call_plan<'p>(alloc: Global, program: &Program) -> Result<Plan<'p>, NotCompil
     Ok(plan)
 }
 
-/// Returns a plan without points where blanks are skipped, and comments, if there are such.
+/// Returns a plan without points, if blanks are skipped, and comments when there are such.
 fn blank_plan<'p>(alloc: Global, program: &Program, comments: bool) -> Result<Plan<'p>, NotCompiled>
     requires sound { IsSoundProgram program.now }
     requires note { comments ≡ false → program.now.comment ≡ None }
@@ -187,7 +187,7 @@ fn blank_plan<'p>(alloc: Global, program: &Program, comments: bool) -> Result<Pl
     }
 }
 
-/// Returns a plan without points where blanks are the characters of some ranges.
+/// Returns a plan without points, if blanks are the characters of some ranges.
 fn set_plan<'p>(
     alloc: Global,
     program: &Program,
@@ -210,7 +210,7 @@ fn set_plan<'p>(
     Ok(plan)
 }
 
-/// Returns a plan without points where nothing is skipped.
+/// Returns a plan without points, if nothing is skipped.
 fn plain_plan<'p>(alloc: Global, program: &Program) -> Result<Plan<'p>, NotCompiled>
     requires sound { IsSoundProgram program.now }
     requires white { program.now.whitespace ≡ None }

@@ -18,7 +18,7 @@ use matcher_sets::first_sets::FirstSets;
 use std::alloc::Global;
 
 impl<'p> Plan<'p> {
-    /// Plans a lookahead. An operation pushes a slot first, and where the body matches, the run goes on at
+    /// Plans a lookahead. An operation pushes a slot first, and if the body matches, the run goes on at
     /// `found`.
     pub(crate) fn lookahead(
         &mut self,
@@ -311,7 +311,7 @@ impl<'p> Plan<'p> {
         Ok(())
     }
 
-    /// Plans a repetition where nothing is skipped.
+    /// Plans a repetition if nothing is skipped.
     pub(crate) fn tight_repetition(
         &mut self,
         program: &Program,

@@ -20,7 +20,7 @@ use matcher_sets::first_sets::{FirstSet, FirstSets, first_set_of};
 use matcher_sets::modes::Atomicity;
 use std::alloc::Global;
 
-/// Returns a form without what restores the stack where it fails.
+/// Returns a form without what restores the stack if it fails.
 fn inside(form: &Form) -> &Form {
     match form {
         Form::Restore(body) => body,
@@ -129,7 +129,7 @@ impl<'p> Plan<'p> {
         }
     }
 
-    /// Plans a test of the next character before a task that fails where none of a FIRST set is next. Returns
+    /// Plans a test of the next character before a task that fails if none of a FIRST set is next. Returns
     /// the label at which the task begins then. The labels from `fresh` on are free.
     pub(crate) fn test(
         &mut self,

@@ -94,7 +94,7 @@ impl<'p> Plan<'p> {
         Ok(set)
     }
 
-    /// Plans a form of one character of some ranges, where one in front refuses others, and nothing is
+    /// Plans a form of one character of some ranges, if one in front refuses others, and nothing is
     /// skipped.
     pub(crate) fn other_character(
         &mut self,
@@ -238,7 +238,7 @@ impl<'p> Plan<'p> {
         Ok(())
     }
 
-    /// Plans `EOI` in Atomic, where it gives no tree.
+    /// Plans `EOI` if it gives no tree, in Atomic.
     pub(crate) fn bare_end(&mut self, program: &Program, at: Place) -> Result<(), NotCompiled>
         requires bound { rule_of (grammar_in program.now) (codes "EOI") ≡ None }
         requires unseen { mode_of at.mode ≡ AtomicMode }
@@ -256,7 +256,7 @@ impl<'p> Plan<'p> {
         Ok(())
     }
 
-    /// Plans `EOI` where it gives a tree. The labels from `fresh` on are free.
+    /// Plans `EOI` if it gives a tree. The labels from `fresh` on are free.
     pub(crate) fn end(
         &mut self,
         program: &Program,

@@ -83,7 +83,7 @@ fn blank_first_set(
 }
 
 impl<'p> Plan<'p> {
-    /// Plans nothing, where nothing is skipped.
+    /// Plans nothing, if nothing is skipped.
     fn stay(&self, program: &Program, at: Place) -> Result<(), NotCompiled>
         requires tight { IsTightIn program.now at.mode }
         ensures lays { OnOk result (LaysAt program.now self.now (Skipping (mode_of at.mode)) at) }
@@ -106,7 +106,7 @@ impl<'p> Plan<'p> {
         }
     }
 
-    /// Plans the skipping of blanks, where there are no comments.
+    /// Plans the skipping of blanks, if there are no comments.
     fn skip_blanks(&mut self, program: &Program, set: u32, at: Place) -> Result<(), NotCompiled>
         requires none { rule_of (grammar_in program.now) comment ≡ None }
         requires set { IsBlankSet program.now self.old.sets set }
@@ -214,7 +214,7 @@ impl<'p> Plan<'p> {
         }
     }
 
-    /// Plans as many blanks as there are, which are the characters of a set.
+    /// Plans all blanks that are next, which are the characters of a set.
     fn blanks_of(&mut self, program: &Program, set: u32, at: Place) -> Result<(), NotCompiled>
         requires set { IsBlankSet program.now self.old.sets set }
         ensures later { OnOk result (IsLater program.now self.old self.new) }
@@ -224,8 +224,8 @@ impl<'p> Plan<'p> {
         Ok(())
     }
 
-    /// Plans as many of a part of the implicit skipping as there are, with a test of the next character if
-    /// the FIRST set of the part is known. The labels from `fresh` on are free.
+    /// Plans a part of the implicit skipping, again and again until it fails. If the FIRST set of the part is
+    /// known, there is a test of the next character. The labels from `fresh` on are free.
     fn turns_between(
         &mut self,
         program: &Program,
@@ -255,7 +255,7 @@ impl<'p> Plan<'p> {
         Ok(())
     }
 
-    /// Plans as many blanks as there are, by calls of `WHITESPACE`. The labels from `fresh` on are free.
+    /// Plans all blanks that are next, by calls of `WHITESPACE`. The labels from `fresh` on are free.
     fn blank_calls(
         &mut self,
         alloc: Global,
@@ -274,7 +274,7 @@ impl<'p> Plan<'p> {
         Ok(())
     }
 
-    /// Plans as many blanks as there are. The labels from `fresh` on are free.
+    /// Plans all blanks that are next. The labels from `fresh` on are free.
     pub(crate) fn blanks(
         &mut self,
         alloc: Global,
@@ -323,7 +323,7 @@ impl<'p> Plan<'p> {
         Ok(())
     }
 
-    /// Plans no comments, where there is no rule `COMMENT`: characters of an empty set.
+    /// Plans no comments, if there is no rule `COMMENT`: characters of an empty set.
     fn no_comments(&mut self, program: &Program, at: Place) -> Result<(), NotCompiled>
         requires ready { IsReady program.now self.old }
         requires none { rule_of (grammar_in program.now) comment ≡ None }
@@ -339,7 +339,7 @@ impl<'p> Plan<'p> {
         Ok(())
     }
 
-    /// Plans as many comments as there are. The labels from `fresh` on are free.
+    /// Plans all comments that are next. The labels from `fresh` on are free.
     pub(crate) fn comments(
         &mut self,
         alloc: Global,
@@ -361,7 +361,7 @@ impl<'p> Plan<'p> {
         }
     }
 
-    /// Plans as many comments as there are, by calls. The labels from `fresh` on are free.
+    /// Plans all comments that are next, by calls. The labels from `fresh` on are free.
     fn comment_turns(
         &mut self,
         alloc: Global,

@@ -65,7 +65,7 @@ impl<'p> Plan<'p> {
         }
     }
 
-    /// Plans a repetition where nothing is skipped.
+    /// Plans a repetition if nothing is skipped.
     fn tight_turns(
         &mut self,
         alloc: Global,

@@ -20,11 +20,11 @@ pub enum Part<'p> {
     Gap,
     /// The implicit skipping, as the expression that it is.
     Skipped,
-    /// As many calls of `WHITESPACE` as succeed, in the implicit skipping.
+    /// Calls of `WHITESPACE` until one fails, in the implicit skipping.
     Blanks,
     /// A call of `WHITESPACE`, in the implicit skipping.
     BlankCall,
-    /// As many comments as there are, in the implicit skipping, with blanks after each.
+    /// All comments that are next, in the implicit skipping, with blanks after each.
     Comments,
     /// A comment with blanks after it, in the implicit skipping.
     Comment,

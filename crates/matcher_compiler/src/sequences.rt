@@ -92,7 +92,7 @@ impl<'p> Plan<'p> {
         }
     }
 
-    /// Plans a sequence with blanks of a set between its parts, and a test of the next character: where no
+    /// Plans a sequence with blanks of a set between its parts, and a test of the next character. If no
     /// character of a FIRST set is next, the second part takes nothing. A failure goes on as the last slot
     /// says. The labels from `fresh` on are free.
     fn gap_sequence(

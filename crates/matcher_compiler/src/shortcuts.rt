@@ -118,7 +118,7 @@ fn alternative_ranges(
     }
 }
 
-/// Returns the characters that a second alternative takes alone, where the first one fails at once, if these
+/// Returns the characters that a second alternative takes alone when the first one fails at once, if these
 /// are known.
 fn second_ranges(
     alloc: Global,
@@ -189,7 +189,7 @@ fn single_ranges(
 }
 
 impl<'p> Plan<'p> {
-    /// Plans a repetition where nothing is skipped, and whose body takes some characters alone. The label
+    /// Plans a repetition whose body takes some characters alone, if nothing is skipped. The label
     /// `fresh` is free.
     fn shortened_repetition(
         &mut self,
@@ -225,7 +225,7 @@ impl<'p> Plan<'p> {
         Ok(())
     }
 
-    /// Plans a repetition where nothing is skipped, by its turns. The label `fresh` is free.
+    /// Plans a repetition by its turns, if nothing is skipped. The label `fresh` is free.
     pub(crate) fn tight_loop(
         &mut self,
         alloc: Global,

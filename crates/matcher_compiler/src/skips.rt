@@ -17,7 +17,7 @@ use matcher_sets::texts::first_characters;
 use std::alloc::Global;
 
 impl<'p> Plan<'p> {
-    /// Plans a search for the first of some texts. Where one of them is empty, it takes nothing.
+    /// Plans a search for the first of some texts. If one of them is empty, it takes nothing.
     fn search_texts(
         &mut self,
         alloc: Global,

@@ -24,8 +24,8 @@ use matcher_sets::modes::Atomicity;
 use matcher_sets::texts::{all_characters, single_characters};
 use std::alloc::Global;
 
-/// Returns the characters that the repetition of a sequence takes, where a form refuses some characters, and
-/// one after it takes others, if these are known.
+/// Returns the characters that the repetition of a sequence takes, if these are known. In the sequence a
+/// form refuses some characters, and one after it takes others.
 fn other_ranges(
     alloc: Global,
     program: &Program,
@@ -77,7 +77,7 @@ fn same_ranges(
     }
 }
 
-/// Returns the characters that a repetition takes where nothing is skipped, if it is a span.
+/// Returns the characters that a repetition takes when nothing is skipped, if it is a span.
 pub(crate) fn repeated_ranges(
     alloc: Global,
     program: &Program,
@@ -118,7 +118,7 @@ pub(crate) fn searched_ranges(
     Ok(Some(rest))
 }
 
-/// Returns the characters that a form takes where nothing is skipped, if it is a span.
+/// Returns the characters that a form takes when nothing is skipped, if it is a span.
 pub(crate) fn span_ranges(
     alloc: Global,
     program: &Program,
@@ -150,7 +150,7 @@ impl<'p> Plan<'p> {
         Ok(())
     }
 
-    /// Plans a sequence of a span and a form that takes nothing where no character of a FIRST set is next. A
+    /// Plans a sequence of a span and a form that takes nothing if no character of a FIRST set is next. A
     /// failure goes on as the last slot says. The labels from `fresh` on are free.
     fn span_sequence(
         &mut self,

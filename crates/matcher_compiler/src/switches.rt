@@ -50,8 +50,8 @@ impl<'p> Plan<'p> {
         self.tables = size;
     }
 
-    /// Plans a table where a task that fails where none of a FIRST set is next begins at `first`, and what is
-    /// tried then begins at `second`.
+    /// Plans a table for a task that fails if none of a FIRST set is next. The task begins at `first`, and
+    /// what is tried then begins at `second`.
     fn table(
         &mut self,
         first_set: FirstSet,

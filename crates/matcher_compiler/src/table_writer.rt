@@ -22,7 +22,7 @@ struct Draft<'a> {
     texts: &'a [Vec<u8>],
 }
 
-/// Returns a list of zeros, so many times as many as a table has labels.
+/// Returns a list of zeros, for the labels of `count` tables.
 fn empty_tables(alloc: Global, count: u32) -> Result<Vec<u32>, AllocError> {
     let empty = [0u32; 257];
     let mut tables = Vec::with_capacity(alloc, count as usize * 257)?;
@@ -50,30 +50,30 @@ fn write_end(labels: &mut [u32], label: u32) {
     }
 }
 
-/// Writes one label where the flag is 0, and another elsewhere.
+/// Writes one label for each byte whose flag is not 0, and another for each other byte.
 fn write_either(labels: &mut [u32], flags: &[u8], marked: u32, other: u32) {
     for byte in 0..labels.len().min(flags.len()) {
         labels[byte] = if flags[byte] == 0 { other } else { marked };
     }
 }
 
-/// Returns one label where the flag is 0, another where it is the length of a character, and `unknown` where
-/// it is neither.
+/// Returns one label if the flag is 0, another if it is the length of a character, and `unknown` if it is
+/// neither.
 #[inline(always)]
 fn lead_by(flag: u8, next: u32, fail: u32, unknown: u32) -> u32 {
     let other = if flag > 4 { unknown } else { next };
     if flag == 0 { fail } else { other }
 }
 
-/// Writes one label where the flag is 0, another where it is the length of a character, and `unknown` where
-/// it is neither.
+/// Writes one label if the flag is 0, another if it is the length of a character, and `unknown` if it is
+/// neither.
 fn write_tested(labels: &mut [u32], flags: &[u8], next: u32, fail: u32, unknown: u32) {
     for byte in 0..labels.len().min(flags.len()) {
         labels[byte] = lead_by(flags[byte], next, fail, unknown);
     }
 }
 
-/// Writes a label where the flag is not 0.
+/// Writes a label for each byte whose flag is not 0.
 fn write_marked(labels: &mut [u32], flags: &[u8], label: u32) {
     for byte in 0..labels.len().min(flags.len()) {
         let known = labels[byte];
@@ -104,7 +104,7 @@ fn copy_table(tables: &mut Vec<u32>, from: u32, table: u32) {
     }
 }
 
-/// Writes into a table the labels of another one where the flag is not 0.
+/// Writes into a table the labels of another one, for the bytes whose flag is not 0.
 fn copy_marked(tables: &mut Vec<u32>, flags: &[u8], from: u32, table: u32) {
     let start = from as usize;
     let place = table as usize;
@@ -120,8 +120,8 @@ fn copy_marked(tables: &mut Vec<u32>, flags: &[u8], from: u32, table: u32) {
     }
 }
 
-/// Writes where a test leads, or a label where that is not known, where the flag is not 0. `tested`: the
-/// flags of the test.
+/// Writes where a test leads, or a label if that is not known, for each byte whose flag is not 0. `tested`:
+/// the flags of the test.
 fn write_test(labels: &mut [u32], flags: &[u8], tested: &[u8], next: u32, fail: u32, unknown: u32) {
     for byte in 0..labels.len().min(flags.len()).min(tested.len()) {
         let known = labels[byte];
@@ -221,8 +221,9 @@ impl<'a> Draft<'a> {
         }
     }
 
-    /// Writes in place of the labels of the second alternative of a choice those before which a failure of
-    /// the first one is recorded, where the flag is 0, and for the end. Bytes above ASCII have other flags.
+    /// Writes labels before which a failure of the first alternative of a choice is recorded. They replace
+    /// those of the second one for each byte whose flag is 0, and for the end. Bytes above ASCII have other
+    /// flags.
     fn write_notes(
         &mut self,
         labels: &mut [u32],
@@ -299,8 +300,8 @@ impl<'a> Draft<'a> {
     }
 }
 
-/// Returns some operations with those that record failures before tables lead on, and so many tables as are
-/// demanded.
+/// Returns some operations with those that record failures before tables lead on, and the `count` demanded
+/// tables.
 pub(crate) fn write_tables<'a>(
     alloc: Global,
     ops: Vec<Op>,

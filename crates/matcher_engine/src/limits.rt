@@ -6,7 +6,7 @@ ghost use Rattle.matcher_engine.specs.Limits.{steps_of};
 /// memo table.
 pub(crate) const OPERATIONS: u64 = 4;
 
-/// The greatest limit: as many steps as a `u64` of operations has.
+/// The greatest limit: the steps of the greatest number of operations that a `u64` holds.
 const MOST_STEPS: u64 = u64::MAX / OPERATIONS;
 
 /// The steps of a run without a memo table for each byte of a text, and those for each text. Nearly all texts

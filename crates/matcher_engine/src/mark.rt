@@ -1,6 +1,6 @@
 //! Marks of records of calls.
 
-/// The record of a run where a call or a `!` begins: how many calls were open, how many paths and attempts
+/// The record of a run when a call or a `!` begins: how many calls were open, how many paths and attempts
 /// there were, whether the run stood below a `!`, and the greatest position of an attempt.
 #[derive(Clone, Copy, Debug)]
 pub struct Mark {

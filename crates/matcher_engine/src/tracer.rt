@@ -23,7 +23,7 @@ pub struct Tracer {
     pub machine: Machine,
     /// The calls that count and are open, the outermost first.
     pub calls: Vec<OpenCall>,
-    /// The calls that were open where a rule was expected, each list once.
+    /// The calls that were open when a rule was expected, each list once.
     pub paths: Vec<Vec<OpenCall>>,
     /// Whether the run stands below a `!`, or below an odd number of them.
     pub below: bool,
@@ -459,7 +459,7 @@ impl Tracer {
         self.machine.step_at(code, text, pc, at)
     }
 
-    /// Runs a program on a text, from an operation and a position in bytes, in at most so many steps. Errors:
+    /// Runs a program on a text, from an operation and a position in bytes, in at most `steps` steps. Errors:
     /// allocation failed, or there are more than 1,024 paths, or 65,535 attempts of a kind.
     pub fn run(
         &mut self,

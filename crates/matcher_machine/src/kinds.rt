@@ -31,7 +31,7 @@ pub(crate) enum Scope {
 pub(crate) enum Kind {
     /// Anywhere: what is run from there only fails or ends.
     Anywhere,
-    /// In a part, below so many slots of choices and lookaheads.
+    /// In a part, below this number of slots of choices and lookaheads.
     Within(Scope, u32),
 }
 
@@ -236,7 +236,7 @@ fn has_kind(code: &Bytecode<'_>, kinds: &[Kind], op: Op, kind: Kind) -> bool
 /// them are run anywhere.
 const MOST_RECORDS: u32 = 8;
 
-/// Returns whether the run from a label only fails or ends, as far as so many operations show.
+/// Returns whether the run from a label only fails or ends, as far as `MOST_RECORDS` operations show.
 fn only_fails(code: &Bytecode<'_>, label: u32) -> bool {
     let mut here = label;
     for _ in 0..MOST_RECORDS {

@@ -26,7 +26,7 @@ pub fn runs_that_end_do_not_come_back()
         → pops_slot (op_at code text d.pc) ≡ true → ComesBack code text c → ⊥ }
 {}
 
-/// Where no operation of the code uses the stack, a run from a position of the text, without slots before it,
+/// If no operation of the code uses the stack, a run from a position of the text, without slots before it,
 /// passes the text by three bytes at most.
 pub fn runs_stay_near_the_text()
     ensures { (code : CodeLists) (text : List ℕ) → is_stackless code ≡ true → (c : Config)

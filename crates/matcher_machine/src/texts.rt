@@ -33,7 +33,7 @@ pub(crate) fn match_held(
     match_bytes(bytes_of(code, text, held), text, at)
 }
 
-/// Converts a number of a slice to an index among so many texts; negative ones count from the end.
+/// Converts a number of a slice to an index among `count` texts; negative ones count from the end.
 pub(crate) fn index_of(count: usize, number: i32) -> Option<usize>
     ensures { result ≡ place count number }
 {

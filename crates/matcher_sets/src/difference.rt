@@ -233,7 +233,7 @@ fn push_newline(ranges: &mut Ranges) -> Result<bool, AllocError>
     Ok(true)
 }
 
-/// Appends the ranges of the characters of which a form takes one or more where one is next, if it fails
+/// Appends the ranges of the characters of which a form takes one or more when one is next, if it fails
 /// elsewhere. Returns whether it does.
 pub(crate) fn push_firsts(
     alloc: Global,
@@ -251,9 +251,9 @@ pub(crate) fn push_firsts(
     }
 }
 
-/// Returns the ranges of the characters of which a form takes one or more where one is next, if it is a
-/// choice of sets of characters and of newlines, which fails elsewhere, or `None` if it is another form, or
-/// the ranges are too many.
+/// Returns the ranges of the characters of which a form takes one or more when one is next. The form is a
+/// choice of sets of characters and of newlines, which fails elsewhere. If it is another form, or the ranges
+/// are too many, the result is `None`.
 pub fn first_ranges(
     alloc: Global,
     program: &Program,

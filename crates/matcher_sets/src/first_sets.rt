@@ -27,7 +27,7 @@ pub(crate) const DEPTH: u32 = 64;
 /// that begin with one another do not grow with their number.
 const MOST_JOINED: usize = 1024;
 
-/// The characters with which a form begins. Where none of them is next, the form takes nothing.
+/// The characters with which a form begins. If none of them is next, the form takes nothing.
 #[derive(Drop)]
 pub struct FirstSet {
     pub ranges: Ranges,
@@ -422,7 +422,7 @@ fn optional_first_set(
     }
 }
 
-/// Returns the FIRST set of what takes nothing where its operand fails: a repetition, or a negative
+/// Returns the FIRST set of what takes nothing if its operand fails: a repetition, or a negative
 /// lookahead.
 #[cycle(form_first_sets)]
 fn spared_first_set(

@@ -80,7 +80,7 @@ module _ (h : Grammar) (classes : Classes) where
   inherits CompoundAtomicMode p = refl
   inherits Between p = absurd p
 
-  wrapper_mode : (m : Mode) (n : Text) (b : Expression) → IsRuleMode m → (bytes_eq n whitespace || bytes_eq n comment) ≡ false → m ≡ body_mode (wrapper n b) m
+  pub wrapper_mode : (m : Mode) (n : Text) (b : Expression) → IsRuleMode m → (bytes_eq n whitespace || bytes_eq n comment) ≡ false → m ≡ body_mode (wrapper n b) m
   wrapper_mode m n b p e = rw e (sym (inherits m p))
 
   after_tag : {m : Mode} {n t : Text} {s : State} {b : Expression} (o : Outcome) {f : TaggedTrees → TaggedTrees}

@@ -18,7 +18,7 @@ use Rattle.matcher_support.proofs.Wraps.{run, ident}
 use Rattle.matcher_support.proofs.Showing.{AreWrapped, IsWrappedAs, shows}
 
 module _ (g : Grammar) (classes : Classes) (c : CanWrap g) where
-  names : AllByRecursion HasNoMark g
+  pub names : AllByRecursion HasNoMark g
   names = recursion_from_All HasNoMark g c.names
 
   result : Grammar × Grammar
@@ -37,13 +37,13 @@ module _ (g : Grammar) (classes : Classes) (c : CanWrap g) where
       (knows_before 0 m.more (wrapped_rules g []).0 m.more (λ n t h. m.none n (absent g n t names h)) m.numbered few
       (own 0 m.more m.numbered few))
 
-  others : (n : Text) → rule_of g n ≡ None → tag_in n ≡ None → rule_of (wrapped_grammar g) n ≡ None
+  pub others : (n : Text) → rule_of g n ≡ None → tag_in n ≡ None → rule_of (wrapped_grammar g) n ≡ None
   others n e h =
       let m = made_rules g [] in
       let a : rule_of (wrapped_rules g []).1 n ≡ None = ap (λ u. rule_of u n) m.split ∙ absent_wrapper 0 m.more n m.numbered few h in
       rule_of_both (wrapped_rules g []).1 (wrapped_rules g []).0 n ∙ rw (m.none n e) a
 
-  rules : (n : Text) (r : Rule) → rule_of g n ≡ Some r → IsWrappedAs (wrapped_grammar g) n r
+  pub rules : (n : Text) (r : Rule) → rule_of g n ≡ Some r → IsWrappedAs (wrapped_grammar g) n r
   rules n r e =
       let m = made_rules g [] in
       let x = m.found (wrapped_grammar g) n r c.few knows e in

@@ -17,7 +17,7 @@ use std::io::{self, Write};
 use std::process::ExitCode;
 use std::{env, fs};
 
-/// Writes a text to the file of a name, or to standard output where none is given.
+/// Writes a text to the file of a name, or to standard output if none is given.
 fn write(rt: &HostRuntime, text: &str, out: Option<&str>) -> io::Result<()> {
     match out {
         Some(name) => fs::File::create(rt, name)?.write_all(text.as_bytes()),

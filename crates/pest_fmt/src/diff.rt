@@ -164,15 +164,15 @@ impl<'t> Side<'t> {
         Side { lines, next: 0 }
     }
 
-    /// Counts the lines that remain after so many more.
+    /// Counts the lines that remain after `count` more.
     fn lines_left_after(&self, count: usize) -> usize {
         self.lines
             .len()
             .saturating_sub(self.next.saturating_add(count))
     }
 
-    /// Returns the number, from 1, of the first line of a hunk of so many lines, or of the line before an
-    /// empty hunk.
+    /// Returns the number, from 1, of the first line of a hunk of `count` lines, or of the line before
+    /// an empty hunk.
     fn first_number(&self, count: usize) -> usize {
         if count == 0 {
             self.next
@@ -186,7 +186,7 @@ impl<'t> Side<'t> {
         self.next = self.next.saturating_add(count);
     }
 
-    /// Prints so many lines, each after a mark. One without a line feed is followed by a note that says so.
+    /// Prints `count` lines, each after a mark. One without a line feed is followed by a note that says so.
     fn print(&mut self, out: &mut String, mark: char, count: usize) -> Result<(), AllocError> {
         for _ in 0..count {
             if let Some(line) = self.lines.get(self.next) {

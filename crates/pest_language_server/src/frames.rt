@@ -1,4 +1,4 @@
-//! Frames of messages: a head of lines, an empty line, and as many bytes as the head says.
+//! Frames of messages: a head of lines, an empty line, and the number of bytes that the head says.
 ghost use Rattle.std.specs.Prelude.{◌≡◌, ◌≤◌, ◌<◌, ◌∷◌, [], ℕ, List, IfOk, MatchOption, OnOk, length, string_bytes, take};
 ghost use Rattle.std.specs.Io.{ReadsAtMost};
 ghost use Rattle.std.specs.Io.KnownBytes.{Appends, Consumes, IsAtEnd};
@@ -43,7 +43,7 @@ enum Head {
     End,
 }
 
-/// Reads one frame. Waits for bytes that are still to come, and fails where the system does.
+/// Reads one frame. Waits for bytes that are still to come, and fails if the system does.
 pub fn read_frame<R: BufRead>(alloc: Global, input: &mut R) -> io::Result<InputFrame>
     ensures { IfOk result (IsFrameRead (R.remaining input.old) (R.remaining input.new)) }
 {
@@ -168,7 +168,7 @@ fn read_some<R: BufRead>(input: &mut R, buffer: &mut [u8]) -> io::Result<usize>
     Err(io::Error::from(ErrorKind::Interrupted))
 }
 
-/// Reads at most so many bytes into the front of a buffer; none at the input's end.
+/// Reads at most `most` bytes into the front of a buffer; none at the input's end.
 fn read_part<R: BufRead>(input: &mut R, buffer: &mut [u8], most: usize) -> io::Result<usize>
     requires { most ≤ length buffer.old }
     ensures bound { IfOk result (λ count. count ≤ most) }
@@ -212,7 +212,7 @@ fn skip_body<R: BufRead>(input: &mut R, rest: u64) -> io::Result<InputFrame>
     }
 }
 
-/// Reads so many bytes away. Whether the input has so many.
+/// Reads `count` bytes away. Returns whether the input has them.
 fn skip_bytes<R: BufRead>(input: &mut R, count: u64) -> io::Result<bool>
     ensures { IfOk result (IsRestRead (R.remaining input.old) (R.remaining input.new) count) }
 {

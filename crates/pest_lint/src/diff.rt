@@ -27,7 +27,7 @@ pub(crate) fn diff(alloc: Global, name: &str, old: &str, new: &str) -> Result<St
     Ok(out)
 }
 
-/// Adds each line that differs, of texts with as many lines.
+/// Adds each line that differs, of texts with the same number of lines.
 fn push_changed_lines(
     alloc: Global,
     lines: LinePair<'_, '_>,

@@ -248,7 +248,7 @@ pub fn limits_of(steps: Option<u64>, length: usize) -> Limits
     }
 }
 
-/// The steps of a match without a limit: a `u64` of operations has as many.
+/// The steps of a match without a limit: those of the greatest number of operations that a `u64` holds.
 const MOST_STEPS: u64 = u64::MAX / 4;
 
 /// Returns the greatest number of steps of a match on a text of `length` bytes by a rule that uses the stack:

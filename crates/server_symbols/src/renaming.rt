@@ -27,7 +27,7 @@ pub enum Renaming {
 }
 
 /// Renames a rule. The edits are where comments at the head of the text mention it, and where its name is an
-/// identifier of the grammar, in definitions and in calls. They are given out only where the new name is a
+/// identifier of the grammar, in definitions and in calls. They are given out only if the new name is a
 /// free one, and the edited text is a grammar with the same tokens, except for the new name and
 /// documentation.
 pub fn rename(

@@ -102,7 +102,7 @@ pub fn empties_the_stack()
     ensures { (classes : Classes) → EmptiesTheStack classes }
 {}
 
-/// `!e` succeeds where `e` fails and takes nothing, and fails where `e` succeeds.
+/// If `e` fails, `!e` succeeds and takes nothing. If `e` succeeds, `!e` fails.
 pub fn negative_predicates()
     ensures { (classes : Classes) → NegativePredicates classes }
 {}
@@ -117,7 +117,7 @@ pub fn comments_are_skipped()
     ensures { (classes : Classes) → CommentsAreSkipped classes }
 {}
 
-/// A name that is neither a rule's nor a builtin's has no outcome where rules run.
+/// A name that is neither a rule's nor a builtin's has no outcome when rules run.
 pub fn undefined_names()
     ensures { (classes : Classes) → UndefinedNames classes }
 {}
@@ -171,7 +171,7 @@ pub fn failures_lose()
     ensures { (classes : Classes) → FailuresLose classes }
 {}
 
-/// On `a`, with "b" above "a", `POP | PEEK` then matches where it fails in the strict meaning; with a wrapper
+/// On `a`, with "b" above "a", `POP | PEEK` then matches, but it fails in the strict meaning. With a wrapper
 /// round `POP` it fails in both.
 pub fn goes_on_from_what_is_left()
     ensures { (classes : Classes) → GoesOnFromWhatIsLeft classes }

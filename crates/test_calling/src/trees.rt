@@ -21,7 +21,7 @@ nested = { inner ~ EOI }
 inner = { \"x\" ~ inner ~ \"y\" | \"x\" ~ inner ~ \"z\" | \"x\" }";
 
 /// Prints the rule of each tree, its positions in bytes, and the number of trees up to its last descendant,
-/// or why there is no match in so many steps at most.
+/// or why there is no match in `steps` steps at most.
 fn print_trees(
     rt: &HostRuntime,
     block: &[u8],

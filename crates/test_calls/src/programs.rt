@@ -19,7 +19,7 @@ pub fn bytes_in_set(code: &Bytecode<'_>, set: u32, text: &str, at: usize) -> usi
     matcher_code::reading::char_len(code, set, text, at)
 }
 
-/// Runs a program on a text, from an operation and a position in bytes, for at most so many turns.
+/// Runs a program on a text, from an operation and a position in bytes, for at most `steps` turns.
 pub fn run(
     alloc: Global,
     machine: &mut Machine,

@@ -137,7 +137,7 @@ impl<R> Error<R> {
         })
     }
 
-    /// Makes the error `variant` at `span`, as `new_from_span` does, where the span's text was surveyed.
+    /// Makes the error `variant` at `span`, as `new_from_span` does, if the span's text was surveyed.
     /// The survey finds the positions, and errors in one line that are made one after another share the
     /// line that they print. The only error is allocation failure.
     pub fn new_in_survey(
@@ -170,7 +170,7 @@ impl<R> Error<R> {
         })
     }
 
-    /// Makes the error `variant` at `span`, as `new_from_span` does: by the survey, where the span's text
+    /// Makes the error `variant` at `span`, as `new_from_span` does: by the survey, if the span's text
     /// is byte by byte the surveyed one. The only error is allocation failure.
     pub fn new_where_surveyed(
         alloc: Global,

@@ -7,7 +7,7 @@ ghost use Rattle.base_language.specs.Pieces.PrintedError.{blank_under, marks, ma
 use super::errors::LineColLocation;
 use std::fmt;
 
-/// As many blanks as this number has digits.
+/// One blank for each digit of this number.
 #[derive(Clone, Copy)]
 pub(crate) struct Margin(pub usize);
 

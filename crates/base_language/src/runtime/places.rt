@@ -28,7 +28,7 @@ pub struct Position<'i> {
 impl<'i> Span<'i> {
     ghost use Rattle.base_language.specs.Pieces.Span.{span_text, span_start, span_end, position_text, position_offset};
 
-    /// Returns the part of `text` from byte `start` up to byte `end`, or `None` where the range is
+    /// Returns the part of `text` from byte `start` up to byte `end`, or `None` if the range is
     /// reversed, reaches past the end of the text, or has an end inside a character.
     pub fn new(text: &'i str, start: usize, end: usize) -> Option<Span<'i>>
         ensures accepted { IsSome result
@@ -111,7 +111,7 @@ impl<'i> Span<'i> {
 impl<'i> Position<'i> {
     ghost use Rattle.base_language.specs.Pieces.Span.{span_text, span_start, span_end, position_text, position_offset};
 
-    /// Returns the position before byte `pos` of `text`, or `None` where that is past the end or inside a
+    /// Returns the position before byte `pos` of `text`, or `None` if that is past the end or inside a
     /// character.
     pub fn new(text: &'i str, pos: usize) -> Option<Position<'i>>
         ensures accepted { IsSome result ↔ IsCharBoundary text.now pos }

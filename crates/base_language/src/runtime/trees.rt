@@ -98,7 +98,7 @@ pub struct FirstTree<'t, R> {
     pub others: &'t [TokenTree<R>],
 }
 
-/// Returns the first of these trees, of which the last comes first, or `None` where there is no tree.
+/// Returns the first of these trees, of which the last comes first, or `None` if there is no tree.
 pub fn first_tree<R: Copy>(trees: &[TokenTree<R>]) -> Option<FirstTree<'_, R>>
     ensures { MatchOption result (trees_of trees.entry.now ≡ NoTokens)
         (λ first. trees_of trees.entry.now
