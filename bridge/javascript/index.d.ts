@@ -120,11 +120,23 @@ export class Matcher {
   paths(rule: string, text: string, position: number, limit?: Limit): Call[][];
 }
 
+/** The terminals of a grammar, which say what a text was missing. */
+export class Terminals {
+  private constructor();
+  /**
+   * Undefined if the rule of a name matches a text. Else an error with the furthest position at which anything was tried. It
+   * expects the literals, ranges and builtins that were tried there, as a grammar has them, and rules that are one token.
+   * @throws {RunError} if the run is stopped, {RangeError} if no rule has the name.
+   */
+  missing(rule: string, text: string, limit?: Limit): MatchError | undefined;
+}
+
 /** The calls of the library over a compiled module, for hosts that load it by themselves. */
 export class Library {
   constructor(module: WebAssembly.Module);
   compile: typeof compile;
   open: typeof open;
+  terminals: typeof terminals;
   diagnose: typeof diagnose;
   format: typeof format;
   document: typeof document;
@@ -161,6 +173,8 @@ export class LibraryError extends Error {}
 export function compile(grammar: string): Uint8Array;
 /** The matcher of a compiled grammar, or of the text of one. @throws {RangeError} if the bytes are none, or were changed. */
 export function open(grammar: Uint8Array | string): Matcher;
+/** The terminals of a grammar, which say what a text was missing. @throws {GrammarError} if anything is wrong with it. */
+export function terminals(grammar: string): Terminals;
 /** Matches a text by a rule of a grammar: `open` once, if there are several texts. */
 export function parse(grammar: Uint8Array | string, rule: string, text: string, limit?: Limit): Match;
 /** The errors with which a grammar is refused, or else its warnings. */

@@ -1,7 +1,7 @@
 // The library, loaded once: `import * as pest from "kingorewa-pest"`.
 import { Library } from "./library.js";
 
-export { GrammarError, Library, LibraryError, MatchError, Matcher, RunError, Tree } from "./library.js";
+export { GrammarError, Library, LibraryError, MatchError, Matcher, RunError, Terminals, Tree } from "./library.js";
 
 const place = new URL("pest_meta.wasm", import.meta.url);
 
@@ -20,6 +20,7 @@ const library = new Library(await WebAssembly.compile(await bytesOfModule()));
 
 export const compile = (grammar) => library.compile(grammar);
 export const open = (grammar) => library.open(grammar);
+export const terminals = (grammar) => library.terminals(grammar);
 export const parse = (grammar, rule, text, options) => library.open(grammar).parse(rule, text, options);
 export const diagnose = (grammar) => library.diagnose(grammar);
 export const format = (grammar) => library.format(grammar);

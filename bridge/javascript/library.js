@@ -233,11 +233,20 @@ export class Library {
 
   /** A grammar, read, checked, optimized and compiled: bytes for `open`, which may be kept in a file. */
   compile(grammar) {
+    return this.#compile("pest_meta_compile", grammar);
+  }
+
+  /** The terminals of a grammar, which say what a text was missing. */
+  terminals(grammar) {
+    return new Terminals(this.open(this.#compile("pest_meta_compile_exposed", grammar)));
+  }
+
+  #compile(name, grammar) {
     const source = encode(grammar);
-    const [status, block] = this.#hand("pest_meta_compile", source);
+    const [status, block] = this.#hand(name, source);
     if (status === REFUSED) throw this.#refusal("pest_meta_parse_and_optimize", source);
     if (status === UNFIT) throw new RangeError("a range of the grammar has a bound that is not one character");
-    return this.#answer(status, "pest_meta_compile", () => block);
+    return this.#answer(status, name, () => block);
   }
 
   /** The matcher of a compiled grammar, or of the text of a grammar. */
@@ -383,6 +392,30 @@ export class Matcher {
     if (status !== ANSWERED) return stop(status, this.names[row], most);
     const names = new Set([...rows].map((it) => this.names[it] ?? "EOI"));
     return new MatchError(...at, [...names].sort());
+  }
+}
+
+/** The terminals of a grammar, which say what a text was missing. */
+export class Terminals {
+  #matcher;
+
+  /** `matcher` is that of the exposed rules, in which each terminal is a rule of its own. */
+  constructor(matcher) {
+    this.#matcher = matcher;
+  }
+
+  /** The error with the terminals that were tried furthest if a rule fails on a text, or undefined if it matches. */
+  missing(rule, text, limit) {
+    try {
+      this.#matcher.parse(rule, text, limit);
+      return undefined;
+    } catch (error) {
+      if (!(error instanceof MatchError)) throw error;
+      const { position, line, column, expected } = error;
+      const all = [...new Set(expected.map((it) => it.slice(it.indexOf("#") + 1)))].sort();
+      const told = all.filter((it) => it !== "WHITESPACE" && it !== "COMMENT");
+      return new MatchError(position, line, column, told.length ? told : all);
+    }
   }
 }
 

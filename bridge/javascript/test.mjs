@@ -65,6 +65,14 @@ test("format, document, tokens, optimized rules, versions", () => {
   assert.equal(pest.versions().version, "2.9.5");
 });
 
+test("terminals say what a text was missing", () => {
+  const ini = pest.terminals('file = { SOI ~ part* ~ EOI } part = { "[" ~ name ~ "]" } name = @{ ASCII_ALPHA+ } WHITESPACE = _{ " " }');
+  const { line, column, expected } = ini.missing("file", "[server");
+  assert.deepEqual([line, column, expected], [1, 8, ['"]"', "ASCII_ALPHA"]]);
+  assert.equal(ini.missing("file", "[server]"), undefined);
+  assert.throws(() => ini.missing("none", ""), RangeError);
+});
+
 test("bytes that are no block of this version are refused", () => {
   const block = pest.compile(LIST), changed = block.slice();
   changed[block.length - 1] ^= 1;

@@ -52,6 +52,7 @@ __all__ = [
     "Related",
     "Rule",
     "RunError",
+    "Terminals",
     "Token",
     "Tree",
     "check",
@@ -581,15 +582,43 @@ def compile(grammar: str) -> bytes:
     A program can keep the block in a file. The grammar is not needed when it is loaded. Raises GrammarError if the
     grammar is refused.
     """
+    return _compiled("pest_meta_compile", grammar)
+
+
+def _compiled(function: str, grammar: str) -> bytes:
+    """The block of a grammar that a function of the library makes."""
     source, block = _encoded(grammar), _List()
-    status = _library().pest_meta_compile(source, len(source), ctypes.byref(block))
+    status = getattr(_library(), function)(source, len(source), ctypes.byref(block))
     if status == _REFUSED:
         check(grammar)
     if status == _UNFIT:
         raise ValueError("a range of the grammar has a bound that is not one character")
     if status != _ANSWERED:
-        raise _stop(status, "pest_meta_compile", "the grammar", 0)
+        raise _stop(status, function, "the grammar", 0)
     return _taken(block, 1)
+
+
+class Terminals:
+    """The terminals of a grammar, which say what a text was missing."""
+
+    def __init__(self, grammar: str) -> None:
+        """Reads, checks, optimizes and compiles a grammar. Raises GrammarError if it is refused."""
+        self._matcher = load(_compiled("pest_meta_compile_exposed", grammar))
+
+    def missing(self, rule: str, text: str, steps: Optional[int] = None) -> Optional[MatchError]:
+        """Returns what `text` was missing if the rule named `rule` fails on it, or None if the rule matches.
+
+        The position of the error is the furthest one at which anything was tried. Its expected names are the literals,
+        ranges and builtins that were tried there, as they are written in a grammar, and rules that are one token. There
+        are none if everything that failed there stands below a `!`. Raises what Matcher.parse raises otherwise.
+        """
+        try:
+            self._matcher.parse(rule, text, steps)
+        except MatchError as error:
+            names = {name.partition("#")[2] or name for name in error.expected}
+            told = sorted(names - {"WHITESPACE", "COMMENT"} or names)
+            return MatchError(error.position, told, text.encode())
+        return None
 
 
 def load(block: bytes) -> Matcher:
@@ -830,6 +859,7 @@ def _declare_runs(library: Any) -> None:
     rule, place = ctypes.c_uint32, ctypes.c_size_t
     run = [*text, rule, *text, place]
     library.pest_meta_compile.argtypes = [*text, found]
+    library.pest_meta_compile_exposed.argtypes = [*text, found]
     library.pest_meta_check.argtypes = library.pest_meta_rule_count.argtypes = text
     library.pest_meta_rule_count.restype = place
     library.pest_meta_rule_name.argtypes = [*text, rule, *text, ctypes.POINTER(place)]

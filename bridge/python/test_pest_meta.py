@@ -224,6 +224,18 @@ class Matching(unittest.TestCase):
             Matcher(LISTS).parse("list", "[]x")
         self.assertEqual((caught.exception.position, caught.exception.expected), (2, ("EOI",)))
 
+    def test_terminals_say_what_was_missing(self):
+        terminals = pest_meta.Terminals(
+            'file = { SOI ~ section* ~ EOI } section = { "[" ~ name ~ "]" } name = @{ ASCII_ALPHA+ } '
+            'WHITESPACE = _{ " " }'
+        )
+        missing = terminals.missing("file", "[server")
+        self.assertEqual((missing.position, missing.expected), (7, ('"]"', "ASCII_ALPHA")))
+        self.assertEqual(terminals.missing("file", "[a] b").expected, ('"["', "EOI"))
+        self.assertIsNone(terminals.missing("file", "[server]"))
+        with self.assertRaises(ValueError):
+            terminals.missing("absent", "[server]")
+
     def test_the_line_of_a_failure_is_escaped_and_cut(self):
         matcher = Matcher('a = { "x"* ~ EOI }')
         line = "x" * 90 + "\x1b[31mä" + "y" * 90

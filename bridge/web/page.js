@@ -370,9 +370,9 @@ function holdAtCursor() {
   litMarks.push(text.markText(text.posFromIndex(start), text.posFromIndex(end), { className: "m-lit" }));
 }
 
-function failureOf({ position, line, column, expected, paths, note }) {
+function failureOf({ position, line, column, expected, missing, paths, note }) {
   const found = text.getValue().slice(position), shownPart = found ? JSON.stringify([...found.slice(0, 20)].slice(0, 12).join("")) : "the end of the text";
-  const made = element("div", { className: "failure" },
+  const made = element("div", { className: "failure" }, ...missingPart(missing),
     element("p", {}, element("button", { className: "place", type: "button", onclick: () => goTo(text, position) }, `${line}:${column}`), " the text fails here, at ", element("code", {}, shownPart)),
     element("p", {}, expected.length ? "Expected: " : "Nothing is known to be expected here.", ...names(expected)));
   if (note) made.append(element("p", { className: "faint" }, note));
@@ -382,6 +382,15 @@ function failureOf({ position, line, column, expected, paths, note }) {
     if (paths.length > MOST_PATHS) made.append(element("p", { className: "faint" }, `${paths.length - MOST_PATHS} more`));
   }
   return made;
+}
+
+/** What the text was missing, where that is known: the furthest place, and the terminals that were tried there. */
+function missingPart(missing) {
+  if (!missing) return [];
+  const { position, line, column, expected } = missing;
+  const terminals = expected.slice(0, MOST_PATHS).flatMap((it, at) => [at ? ", " : "", ruleLink(it)]);
+  const place = element("button", { className: "place", type: "button", onclick: () => goTo(text, position) }, `${line}:${column}`);
+  return [element("p", {}, "Missing at ", place, ": ", ...terminals, expected.length > MOST_PATHS ? ", .." : "")];
 }
 
 // So many paths are shown, and of a long one so many calls at its start and at its end.

@@ -32,7 +32,8 @@ const tasks = {
     } catch (error) {
       if (error.name !== "MatchError") throw error;
       const { position, line, column, expected } = error;
-      return { failure: { position, line, column, expected, message: error.message, ...pathsOf(matcher, rule, text, position) } };
+      const failure = { position, line, column, expected, missing: missingIn(grammar, rule, text), message: error.message };
+      return { failure: { ...failure, ...pathsOf(matcher, rule, text, position) } };
     }
   },
 };
@@ -42,6 +43,20 @@ let last = {};
 function matcherOf(grammar) {
   if (last.grammar !== grammar) last = { grammar, matcher: library.open(grammar) };
   return last.matcher;
+}
+
+/** What a text was missing: the furthest position at which anything was tried, and the terminals there. */
+function missingIn(grammar, rule, text) {
+  last.terminals ??= library.terminals(grammar);
+  try {
+    const missing = last.terminals.missing(rule, text);
+    if (!missing?.expected.length) return undefined;
+    const { position, line, column, expected } = missing;
+    return { position, line, column, expected };
+  } catch (error) {
+    if (error.name === "RunError") return undefined;
+    throw error;
+  }
 }
 
 /** Where the rules that are expected are called. A run that is stopped has a note in the place of paths. */

@@ -178,6 +178,17 @@ struct pest_meta_empty {
  * a range with a bound that is not one character. */
 uint8_t pest_meta_compile(const uint8_t *grammar, size_t grammar_len, pest_meta_bytes *block);
 
+/* Compiles a grammar to say what a text was missing: in this block each literal, range
+ * and builtin is a rule of its own. Its name is a number, `#`, and the terminal as it is
+ * written in a grammar, such as `12#"]"`. A rule has the same outcomes as by the block of
+ * pest_meta_compile, but for its trees. If it fails, pest_meta_run gives the furthest
+ * position of all, and pest_meta_expected names the terminals that were tried there; if
+ * there are none, ask pest_meta_attempts. An atomic rule that fails at once, WHITESPACE
+ * and COMMENT are named in place of their terminals. The status is that of
+ * pest_meta_compile. */
+uint8_t pest_meta_compile_exposed(const uint8_t *grammar, size_t grammar_len,
+                                  pest_meta_bytes *block);
+
 /* Compiles optimized rules in binary form, as pest_meta_prepare writes them.
  * Status 5: the bytes are no such rules. 6: as for pest_meta_compile. */
 uint8_t pest_meta_compile_prepared(const uint8_t *rules, size_t rules_len, pest_meta_bytes *block);

@@ -15,6 +15,7 @@ ghost use Rattle.base_language.specs.Language.State.{Classes, Outcome};
 ghost use Rattle.base_language.specs.Language.Text.{Text};
 ghost use Rattle.matcher_program.specs.Answers.{HasAt, state_at};
 ghost use Rattle.matcher_support.specs.Sets.{is_in_property};
+ghost use Rattle.matcher_terminals.specs.Exposed.{exposed};
 ghost use Rattle.pest_meta_c.specs.Compiled.{AreAttemptsTold, ArePathsTold, AreTold, AreUnfit, HasStart, IsBlockStatus, IsCompiled, IsRefusalTold, IsTold, Tells, limit_in, state_from, status_of};
 ghost use Rattle.pest_meta.specs.Spelling.{HasRefusal, IsAnswer};
 
@@ -32,6 +33,7 @@ use matcher_engine::matcher::Preorder;
 use matcher_program::answers::Stop;
 use matcher_program::compile::Unfit;
 use matcher_support::unicode_properties::UnicodeProperties;
+use matcher_terminals::exposed::expose_terminals;
 use std::alloc::Global;
 
 /// The call is answered.
@@ -180,6 +182,52 @@ pub extern "C" fn pest_meta_compile<'a>(alloc: Global, grammar: &[u8], block: &m
         }
         Err(Fault::Memory(_)) => MEMORY,
         Err(Fault::Grammar(_)) => REFUSED,
+    }
+}
+
+/// Hands out the block of the exposed rules of the grammar that a text spells: each terminal in their bodies
+/// is a rule of its own, whose name is a number, `#`, and the terminal as a grammar has it. The names that
+/// `pest_meta_expected` and `pest_meta_attempts` find by this block are those of the terminals that a text was
+/// missing.
+#[unsafe(no_mangle)]
+pub extern "C" fn pest_meta_compile_exposed<'a>(
+    alloc: Global,
+    grammar: &[u8],
+    block: &mut &'a [u8],
+) -> u8
+    ensures compiled { result ≡ 0 → (builtins : List (Bor (List ℕ))) × (rules : List OptimizedRule)
+        × IsAnswer grammar.now builtins rules × (made : List OptimizedRule)
+        × (optimized_rules_of made ≡ exposed (optimized_rules_of rules))
+        × IsCompiled made is_in_property block.new.now }
+    ensures refused { result ≡ 1 → HasRefusal grammar.now }
+    ensures no_text { result ≡ 3 → IsUtf8 grammar.now → ⊥ }
+    ensures unfit { result ≡ 6 → (builtins : List (Bor (List ℕ))) × (rules : List OptimizedRule)
+        × IsAnswer grammar.now builtins rules × AreUnfit (exposed (optimized_rules_of rules)) }
+    ensures known { IsBlockStatus result ⊎ ((result ≡ 1) ⊎ (result ≡ 3)) }
+    ensures unchanged { result ≢ 0 → block.new ≡ block.old }
+{
+    let Ok(text) = str::from_utf8(grammar) else {
+        return NO_TEXT;
+    };
+    match pest_meta::parse_and_optimize(alloc, text) {
+        Ok((_, rules)) => put_exposed(alloc, Deep { value: rules }, block),
+        Err(Fault::Memory(_)) => MEMORY,
+        Err(Fault::Grammar(_)) => REFUSED,
+    }
+}
+
+/// Hands out the block of the exposed rules of optimized rules, and returns the status.
+fn put_exposed<'a>(alloc: Global, rules: Deep<Vec<OptimizedRule>>, block: &mut &'a [u8]) -> u8
+    ensures compiled { result ≡ 0 → (made : List OptimizedRule)
+        × (optimized_rules_of made ≡ exposed (optimized_rules_of rules.value.items))
+        × IsCompiled made is_in_property block.new.now }
+    ensures unfit { result ≡ 6 → AreUnfit (exposed (optimized_rules_of rules.value.items)) }
+    ensures known { IsBlockStatus result }
+    ensures unchanged { result ≢ 0 → block.new ≡ block.old }
+{
+    match expose_terminals(alloc, &rules.value) {
+        Ok(exposed) => put_block(alloc, &exposed.value, block),
+        Err(_) => MEMORY,
     }
 }
 

@@ -12,3 +12,4 @@ pub mod Ends
 pub mod Listing
 pub mod Forms
 pub mod Explanations
+pub mod Missing

@@ -15,6 +15,7 @@ mod grammars;
 mod listing;
 mod matching;
 mod messages;
+mod missing;
 mod outcomes;
 mod paths;
 mod properties;
@@ -33,6 +34,7 @@ use explanations::{explain_code, explain_failure};
 use forms::note_forms;
 use grammars::Reading;
 use listing::list_file;
+use missing::tell_missing;
 use program_support::input::{describe_flaw, read_input};
 use program_support::messages::cannot_write;
 use program_support::output::{Output, RefusedWrite};
@@ -119,8 +121,8 @@ fn match_files(
     exit.status
 }
 
-/// Prints more on why there are no trees: the open calls, if the request asks for them, and whether the
-/// optimized rules match; or that a property is pest's.
+/// Prints more on why there are no trees: what the text was missing, the open calls, if the request asks for
+/// them, and whether the optimized rules match; or that a property is pest's.
 fn print_more<W: Write, E: Write>(
     alloc: Global,
     reading: &Reading<'_>,
@@ -133,6 +135,7 @@ fn print_more<W: Write, E: Write>(
         Reading::Nothing => Ok(()),
         Reading::Refused(property) => note_property(alloc, *property, err),
         Reading::Accepted(rules) => {
+            tell_missing(alloc, rules, text, request, err)?;
             if request.why {
                 explain_failure(alloc, rules, text, request, out, err)?;
             }

@@ -138,7 +138,7 @@ pub fn describe_failure(alloc: Global, failure: &NamedAttempts<'_>) -> Result<St
 }
 
 /// Returns the message that some names are expected, and that others are not.
-fn names_message(
+pub(crate) fn names_message(
     alloc: Global,
     positives: &[&str],
     negatives: &[&str],

@@ -1,0 +1,3 @@
+pub mod Trying
+pub mod Exposing
+pub mod Loops

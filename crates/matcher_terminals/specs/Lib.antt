@@ -1,0 +1,4 @@
+pub mod Exposed
+pub mod Frames
+pub mod Tried
+pub mod Labels
