@@ -69,7 +69,7 @@ impl Default for Options {
 pub enum Formatted {
     /// The formatted text.
     Text(String),
-    /// The printed text has other tokens or comments than the given one, so the given text should stay as
+    /// The printed text failed the check of tokens, comments and line ends. So the given text should stay as
     /// it is.
     Unchanged,
 }
@@ -79,7 +79,8 @@ pub enum Formatted {
 /// text is empty, or ends with one line feed. If lines end with line feeds, no line outside of literals
 /// ends with a blank.
 ///
-/// Names need not be defined: every text that `PestParser::parse` accepts for `grammar_rules` is formatted.
+/// Names need not be defined. If `PestParser::parse` accepts `text` for `grammar_rules`, the result is not
+/// `Fault::Grammar`.
 ///
 /// # Errors
 /// - `Fault::Grammar` with the error of `PestParser::parse`, if the text is no grammar.

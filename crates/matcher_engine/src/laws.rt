@@ -22,8 +22,8 @@ pub fn other_bytes_have_other_sums()
         → sum_of (front ++ a ∷ rest) ≡ sum_of (front ++ b ∷ rest) → a ≡ b }
 {}
 
-/// In a well-formed plain grammar with readable counts each rule has an outcome from every state, for all
-/// classes, so that `recognize_block` has an answer in enough turns.
+/// If a grammar is well-formed and plain, and its counts are readable, each of its rules has an outcome from
+/// every state, for all classes.
 pub fn plain_rules_have_outcomes()
     ensures { (g : Grammar) (ps : List Property) (classes : Classes) → Fits ps classes
         → NamesHaveReadableCounts g → IsWellFormed g → IsPlain g

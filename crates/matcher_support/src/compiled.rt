@@ -77,8 +77,8 @@ impl<'b> CompiledGrammar<'b> {
     }
 
     /// Matches the rule named `rule` from the start of `text`. Each run takes at most `limit` steps, as in
-    /// `run_block`. If `limit` is `None`, no rule uses the stack, and the rule has an outcome, then that is
-    /// the result: `Stop::OutOfSteps` does not come.
+    /// `run_block`. If no rule uses the stack, the rule has an outcome, and the turns of the limit are more
+    /// than `most_turns`, `Stop::OutOfSteps` is not returned.
     ///
     /// # Errors
     /// - `BlockStop::NoRule` if no rule has the name.

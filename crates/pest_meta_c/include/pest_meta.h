@@ -277,8 +277,9 @@ uint8_t pest_meta_attempts(const uint8_t *block, size_t block_len, uint32_t rule
 uint8_t pest_meta_diagnostics(const uint8_t *text, size_t text_len, uint8_t *out, size_t out_len,
                               size_t *needed);
 
-/* Formats a grammar. Status 1: its syntax is wrong. 6: the text is formatted
- * already. The caller owns the list. */
+/* Formats a grammar. Status 1: its syntax is wrong. 6: the printed text failed the
+ * check of its tokens, comments and line ends, so keep the text. The caller owns the
+ * list. */
 uint8_t pest_meta_format(const uint8_t *text, size_t text_len, pest_meta_bytes *formatted);
 
 /* Makes the document of a grammar in HTML, with railroad diagrams. Its rules may

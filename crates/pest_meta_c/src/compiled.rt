@@ -187,7 +187,7 @@ pub extern "C" fn pest_meta_compile<'a>(alloc: Global, grammar: &[u8], block: &m
 
 /// Hands out the block of the exposed rules of the grammar that a text spells: each terminal in their bodies
 /// is a rule of its own, whose name is a number, `#`, and the terminal as a grammar has it. The names that
-/// `pest_meta_expected` and `pest_meta_attempts` find by this block are those of the terminals that a text was
+/// `pest_meta_expected` and `pest_meta_attempts` find by this block are those of terminals that a text was
 /// missing.
 #[unsafe(no_mangle)]
 pub extern "C" fn pest_meta_compile_exposed<'a>(
@@ -282,8 +282,8 @@ fn limit_in(steps: u64) -> Option<u64>
 
 /// Runs the rule with the number `rule` from the byte `from` of `text` on. If it matches, the caller gets the
 /// nodes, and `end` is the end of the match; if it fails, `end` is the furthest position of a failure. Each
-/// run takes at most `steps` steps; `u64::MAX` means no limit. If there is none, no rule uses the stack, and
-/// the rule has an outcome, then that is the result: the status is not 8.
+/// run takes at most `steps` steps; `u64::MAX` means no limit. If no rule uses the stack, the rule has an
+/// outcome, and the turns of the limit are more than `most_turns`, the status is not 8.
 #[unsafe(no_mangle)]
 pub extern "C" fn pest_meta_run<'a>(
     alloc: Global,

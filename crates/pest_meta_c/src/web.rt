@@ -11,8 +11,8 @@ use format_grammar::{Formatted, Options, format};
 use pest_meta::{OpenError, open_unvalidated};
 use std::alloc::{AllocError, Global};
 
-/// Returns the formatted text of a grammar, which the caller owns. Status 1 says that its syntax is wrong,
-/// and status 6 that the text is formatted already.
+/// Returns the formatted text of a grammar, which the caller owns. Status 1 says that its syntax is wrong. If
+/// the printed text fails the check of tokens, comments and line ends, the status is 6.
 #[unsafe(no_mangle)]
 pub extern "C" fn pest_meta_format<'a>(alloc: Global, text: &[u8], formatted: &mut &'a [u8]) -> u8
     ensures formatted { result ≡ 0 → IsFormatted LineFeed text.now formatted.new.now }

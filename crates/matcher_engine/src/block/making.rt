@@ -86,7 +86,11 @@ fn block_of(
 /// Compiles `rules` to a block.
 ///
 /// # Errors
-/// Those of `Matcher::new`. `Unfit::Memory` is also returned if the block would have 2^32 bytes or more.
+/// - `Unfit::UnknownName` if a rule calls a name that is neither a rule's nor a builtin's, nor that of a
+///   property that `properties` knows.
+/// - `Unfit::Bound` if a bound of a range is not one character.
+/// - `Unfit::Memory` if an allocation fails, if the check of the code fails, or if the block would have 2^32
+///   bytes or more.
 pub fn compile_block<P: Properties>(
     alloc: Global,
     rules: &[OptimizedRule],
