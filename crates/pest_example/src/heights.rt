@@ -16,7 +16,7 @@ pub type Heights<'a> = HashMap<&'a str, u32>;
 
 /// What is left of the computation of a height.
 #[derive(Drop)]
-enum Task<'a> {
+enum HeightTask<'a> {
     Visit(&'a OptimizedExpr),
     /// Takes the greater one of two heights: both parts are needed.
     Both,
@@ -33,7 +33,7 @@ pub fn height_of(
 ) -> Result<u32, AllocError> {
     let mut tasks = Vec::new(alloc);
     let mut values = Vec::new(alloc);
-    tasks.push(Task::Visit(expr))?;
+    tasks.push(HeightTask::Visit(expr))?;
     for _ in 0..MOST_NODES {
         let Some(task) = tasks.pop() else {
             return Ok(values.pop().unwrap_or(ENDLESS));
@@ -45,19 +45,19 @@ pub fn height_of(
 
 /// Does one task.
 fn take_step<'a>(
-    task: Task<'a>,
+    task: HeightTask<'a>,
     heights: &Heights<'_>,
-    tasks: &mut Vec<Task<'a>>,
+    tasks: &mut Vec<HeightTask<'a>>,
     values: &mut Vec<u32>,
 ) -> Result<(), AllocError> {
     match task {
-        Task::Visit(expr) => visit(expr, heights, tasks, values),
-        Task::Both => {
+        HeightTask::Visit(expr) => visit(expr, heights, tasks, values),
+        HeightTask::Both => {
             let value = pop_height(values).max(pop_height(values));
             values.push(value)?;
             Ok(())
         }
-        Task::Either => {
+        HeightTask::Either => {
             let value = pop_height(values).min(pop_height(values));
             values.push(value)?;
             Ok(())
@@ -74,23 +74,23 @@ fn pop_height(values: &mut Vec<u32>) -> u32 {
 fn visit<'a>(
     expr: &'a OptimizedExpr,
     heights: &Heights<'_>,
-    tasks: &mut Vec<Task<'a>>,
+    tasks: &mut Vec<HeightTask<'a>>,
     values: &mut Vec<u32>,
 ) -> Result<(), AllocError> {
     use OptimizedExpr as E;
     match expr {
         E::Seq(left, right) => {
-            tasks.push(Task::Both)?;
-            tasks.push(Task::Visit(left))?;
-            tasks.push(Task::Visit(right))?;
+            tasks.push(HeightTask::Both)?;
+            tasks.push(HeightTask::Visit(left))?;
+            tasks.push(HeightTask::Visit(right))?;
         }
         E::Choice(left, right) => {
-            tasks.push(Task::Either)?;
-            tasks.push(Task::Visit(left))?;
-            tasks.push(Task::Visit(right))?;
+            tasks.push(HeightTask::Either)?;
+            tasks.push(HeightTask::Visit(left))?;
+            tasks.push(HeightTask::Visit(right))?;
         }
         E::RepOnce(inner) | E::Push(inner) | E::NodeTag(inner, _) | E::RestoreOnErr(inner) => {
-            tasks.push(Task::Visit(inner))?;
+            tasks.push(HeightTask::Visit(inner))?;
         }
         E::Ident(name) => values.push(height_of_name(name.as_str(), heights))?,
         _ => values.push(0)?,

@@ -1,0 +1,5 @@
+pub mod Agreement
+pub mod Grammars
+pub mod Updates
+pub mod Verdicts
+pub mod Walking
