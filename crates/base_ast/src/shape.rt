@@ -46,7 +46,7 @@ pub trait Shaped: Drop {
     // that a tree has no operands
     ghost is_bare: { Self → Type 0 };
 
-    // how large a tree is, where left sides count double
+    // how large a tree is; left sides count double
     ghost heaviness: { Self → ℕ };
 
     /// Destructures the tree without allocating. A tree without operands is kept whole.

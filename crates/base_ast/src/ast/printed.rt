@@ -17,7 +17,7 @@ use std::fmt;
 /// operator alone: `(!e)?`. Of a range's bounds the first characters are printed, and of an empty bound
 /// nothing: `('a'..'z')`. A tagged expression is in parentheses with its tag: `(#tag = e)`.
 ///
-/// Uses an explicit stack of pieces. Fails where memory for the stack is refused.
+/// Uses an explicit stack of pieces. Fails if memory for the stack is refused.
 impl fmt::Display for Expr {
     ghost output = { λ expr. Some (encode_utf8_all (printed (expression_of expr))) };
 

@@ -26,7 +26,7 @@ impl OptimizedExpr {
     }
 
     /// Applies `f` to the expression, then to each operand of its answer, and so on down, left before
-    /// right. `f` answers no more nodes than it gets. Fails where memory is refused, or with the first
+    /// right. `f` answers no more nodes than it gets. Fails if memory is refused, or with the first
     /// `Err` of `f`.
     pub fn map_top_down<F>(self, alloc: Global, f: F) -> Result<OptimizedExpr, Fault>
     where
@@ -40,7 +40,7 @@ impl OptimizedExpr {
     }
 
     /// Applies `f` to the operands of each node, left before right, and then to the node with their results
-    /// in it. Fails where memory is refused, or with the first `Err` of `f`.
+    /// in it. Fails if memory is refused, or with the first `Err` of `f`.
     pub fn map_bottom_up<F>(self, alloc: Global, f: F) -> Result<OptimizedExpr, Fault>
     where
         F: FnMut(OptimizedExpr) -> Result<OptimizedExpr, Fault> + Drop,

@@ -73,7 +73,7 @@ enum Piece<'a, E> {
     Part(Place, &'a E),
 }
 
-/// Writes an expression at the position `Alone`. Fails where a write or memory for the stack of pieces is
+/// Writes an expression at the position `Alone`. Fails if a write or memory for the stack of pieces is
 /// refused.
 pub(crate) fn fmt_printed<W: fmt::Write, E: Printed>(
     f: &mut fmt::Formatter<W>,

@@ -84,7 +84,7 @@ fn escape(text: &str) -> Option<(u32, &str)>
     }
 }
 
-/// Returns the text with its escapes read, or none where one names no character.
+/// Returns the text with its escapes read, or none if one names no character.
 fn unescape(alloc: Global, text: &str) -> Result<Option<String>, AllocError>
     ensures { IfOk result (λ o. Unescapes (λ s. chars (string_bytes s)) (chars text.now) o) }
 {
@@ -108,7 +108,7 @@ fn unescape(alloc: Global, text: &str) -> Result<Option<String>, AllocError>
     Ok(Some(read))
 }
 
-/// Returns the text that a literal denotes, where the trees `quoted` in it are a quote, the quoted text
+/// Returns the text that a literal denotes, if the trees `quoted` in it are a quote, the quoted text
 /// and a quote. An escape that names no character is a flaw of the whole literal.
 pub fn literal<'i>(
     alloc: Global,

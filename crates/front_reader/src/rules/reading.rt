@@ -85,7 +85,7 @@ fn skip_bar(trees: &[TokenNode]) -> &[TokenNode]
     }
 }
 
-/// Returns the trees in the next term of a sequence and the trees after it, where a tilde comes before
+/// Returns the trees in the next term of a sequence and the trees after it, if a tilde comes before
 /// it.
 fn next_term(trees: &[TokenNode]) -> Option<(&[TokenNode], &[TokenNode])>
     ensures { (text : List ℕ) → IsMore text (named_trees_of trees.entry.now)
@@ -105,7 +105,7 @@ fn next_term(trees: &[TokenNode]) -> Option<(&[TokenNode], &[TokenNode])>
     Some((term.inner, term.others))
 }
 
-/// Combines a node with the one before it by an operator; answers the node itself where none is before
+/// Combines a node with the one before it by an operator; answers the node itself if none is before
 /// it.
 fn together<'i>(
     alloc: Global,
@@ -213,7 +213,7 @@ fn finish_operand<'i, 't>(
 }
 
 /// Destructures an operand that begins with a tree into its wrapper round an expression, the trees in the
-/// expression and the postfix operators after the operand; answers none where it holds no expression.
+/// expression and the postfix operators after the operand; answers none if it holds no expression.
 fn inner_of<'t>(tree: FirstTree<'t>) -> Option<(Enclosure, &'t [TokenNode], &'t [TokenNode])>
     requires { (text : List ℕ) × IsOperand text (all_from tree) }
     ensures { (text : List ℕ) → IsOperand text (all_from tree.entry)
@@ -254,7 +254,7 @@ fn operand<'i>(
     apply_postfixes(alloc, text, node, tree.others)
 }
 
-/// Reads the signs of a term from the trees in it, and its operand where that holds no expression.
+/// Reads the signs of a term from the trees in it, and its operand if that holds no expression.
 /// Reports the operand's first flaw.
 fn term<'i, 't>(
     alloc: Global,

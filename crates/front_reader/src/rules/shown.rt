@@ -7,7 +7,7 @@ use base_language::runtime::Fault;
 use std::alloc::Global;
 
 /// Returns the name of a rule that errors show: `rule`, `PUSH` and `PUSH_LITERAL`; a mark between grave
-/// accents where a rule is written as one; `//!` and `///` for the comments that document; the rule's own
+/// accents if a rule is written as one; `//!` and `///` for the comments that document; the rule's own
 /// name for any other, `EOI` included.
 ///
 /// The only fault is an allocation failure.
