@@ -2,8 +2,8 @@
 use Rattle.std.specs.Prelude.{ℕ, List, [], ◌∷◌, flat_map}
 use Rattle.base_language.specs.declared.grammar.Rule.{Rule}
 use Rattle.base_language.specs.declared.grammar.Rule.TheVariants as rule
-use Rattle.front_syntax.specs.declared.entries.Entry.{Entry}
-use Rattle.front_syntax.specs.declared.entries.Entry.TheVariants as entry
+use Rattle.front_syntax.specs.declared.events.TokenEvent.{TokenEvent}
+use Rattle.front_syntax.specs.declared.events.TokenEvent.TheVariants as event
 
 -- one more than the rule's index in the meta-grammar, and for `EOI` the number after all rules
 abbrev pub number_of : Rule → ℕ
@@ -74,11 +74,11 @@ number_of rule.line_doc = 64
 number_of rule.inner_doc = 65
 number_of rule.EOI = 66
 
--- an entry: its rule's number, or 0 where it ends a token; its position; the index of its partner
-abbrev pub entry_numbers : Entry → List ℕ
-entry_numbers (entry.Start rule pos partner) = number_of rule ∷ pos ∷ partner ∷ []
-entry_numbers (entry.End pos partner) = 0 ∷ pos ∷ partner ∷ []
+-- an event: its rule's number, or 0 where it ends a token; its position; the index of its partner
+abbrev pub event_numbers : TokenEvent → List ℕ
+event_numbers (event.Start rule pos partner) = number_of rule ∷ pos ∷ partner ∷ []
+event_numbers (event.End pos partner) = 0 ∷ pos ∷ partner ∷ []
 
--- entries in order
-abbrev pub token_numbers : List Entry → List ℕ
-token_numbers entries = flat_map entry_numbers entries
+-- events in order
+abbrev pub token_numbers : List TokenEvent → List ℕ
+token_numbers events = flat_map event_numbers events

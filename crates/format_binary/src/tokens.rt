@@ -1,31 +1,31 @@
 //! Tokens of the meta-grammar as numbers.
 ghost use Rattle.std.specs.Prelude.{◌≡◌, ◌∷◌, [], ◌++◌, IfOk, OnOk};
-ghost use Rattle.format_binary.specs.Tokens.{entry_numbers, number_of, token_numbers};
+ghost use Rattle.format_binary.specs.Tokens.{event_numbers, number_of, token_numbers};
 
 use base_language::grammar::Rule;
-use front_syntax::grammar::Entry;
+use front_syntax::grammar::TokenEvent;
 use std::alloc::{AllocError, Global};
 
-/// Returns tokens as numbers, three for each entry. The only error is an allocation failure.
-pub fn tokens_numbers(alloc: Global, entries: &[Entry]) -> Result<Vec<usize>, AllocError>
-    ensures { IfOk result (λ numbers. numbers.items ≡ token_numbers entries.now) }
+/// Returns tokens as numbers, three for each event. The only error is an allocation failure.
+pub fn tokens_numbers(alloc: Global, events: &[TokenEvent]) -> Result<Vec<usize>, AllocError>
+    ensures { IfOk result (λ numbers. numbers.items ≡ token_numbers events.now) }
 {
     let mut numbers = Vec::new(alloc);
-    for entry in entries {
-        push_entry(&mut numbers, *entry)?;
+    for event in events {
+        push_event(&mut numbers, *event)?;
     }
     Ok(numbers)
 }
 
-/// Appends the three numbers of an entry.
-fn push_entry(numbers: &mut Vec<usize>, entry: Entry) -> Result<(), AllocError>
-    ensures { OnOk result (numbers.new.items ≡ numbers.old.items ++ entry_numbers entry) }
+/// Appends the three numbers of an event.
+fn push_event(numbers: &mut Vec<usize>, event: TokenEvent) -> Result<(), AllocError>
+    ensures { OnOk result (numbers.new.items ≡ numbers.old.items ++ event_numbers event) }
 {
-    match entry {
-        Entry::Start { rule, pos, partner } => {
+    match event {
+        TokenEvent::Start { rule, pos, partner } => {
             push_three(numbers, number_of(rule), pos, partner)
         }
-        Entry::End { pos, partner } => push_three(numbers, 0, pos, partner),
+        TokenEvent::End { pos, partner } => push_three(numbers, 0, pos, partner),
     }
 }
 

@@ -11,7 +11,7 @@ use Rattle.format_code.specs.Sections.{section}
 abbrev pub lists_at : List ℕ → CodeLists
 lists_at bytes = record {
   ops = ops_in (section bytes 0);
-  rows = section bytes 1;
+  byte_sets = section bytes 1;
   sets = sets_in (section bytes 5) (parts_in (words_in (section bytes 3)) (pairs_in (section bytes 4)));
   tables = words_in (section bytes 2);
   texts = parts_in (words_in (section bytes 6)) (section bytes 7);

@@ -20,7 +20,7 @@ pub fn read_code(bytes: &[u8]) -> Bytecode<'_>
 {
     Bytecode {
         ops: section(bytes, 0).as_chunks::<20>().0,
-        rows: section(bytes, 1),
+        byte_sets: section(bytes, 1),
         tables: section(bytes, 2).as_chunks::<4>().0,
         set_places: section(bytes, 3).as_chunks::<4>().0,
         ranges: section(bytes, 4).as_chunks::<8>().0,
@@ -132,7 +132,7 @@ pub fn write_code(alloc: Global, code: &Code) -> Result<Vec<u8>, AllocError>
         alloc,
         &[
             ops.as_flattened().as_flattened(),
-            code.rows.as_slice(),
+            code.byte_sets.as_slice(),
             tables.as_flattened(),
             ranges.places.as_slice(),
             ranges.items.as_slice(),

@@ -18,11 +18,11 @@ fn words_of(op: Op) -> [u32; 5]
         Op::Fail => [0, 0, 0, 0, 0],
         Op::Call {
             to,
-            row,
+            rule,
             next,
             fail,
             counts,
-        } => [if counts { 2 } else { 1 }, to, row, next, fail],
+        } => [if counts { 2 } else { 1 }, to, rule, next, fail],
         Op::Sub { to, next, fail } => [3, to, next, fail, 0],
         Op::Return => [4, 0, 0, 0, 0],
         Op::Back => [5, 0, 0, 0, 0],
@@ -30,7 +30,7 @@ fn words_of(op: Op) -> [u32; 5]
         Op::One { set, next, fail } => [7, set, next, fail, 0],
         Op::IsOne { set, next, fail } => [8, set, next, fail, 0],
         Op::All { set, next } => [9, set, next, 0, 0],
-        Op::Gap {
+        Op::Trivia {
             set,
             stops,
             next,
@@ -45,7 +45,7 @@ fn words_of(op: Op) -> [u32; 5]
         Op::Note { next } => [17, next, 0, 0, 0],
         Op::Start { next, fail } => [18, next, fail, 0, 0],
         Op::End { next, fail } => [19, next, fail, 0, 0],
-        Op::Leaf { row, next } => [20, row, next, 0, 0],
+        Op::Leaf { rule, next } => [20, rule, next, 0, 0],
         Op::Nested {
             opening,
             closing,
@@ -62,7 +62,7 @@ fn words_of(op: Op) -> [u32; 5]
         | Op::Slice { .. } => stack_words(op),
         Op::Halt => [31, 0, 0, 0, 0],
         Op::Not { next, fail } => [32, next, fail, 0, 0],
-        Op::Miss { row, next } => [33, row, next, 0, 0],
+        Op::Miss { rule, next } => [33, rule, next, 0, 0],
         Op::Lose => [255, 0, 0, 0, 0],
     }
 }

@@ -9,7 +9,7 @@ use Rattle.base_language.proofs.OneOutcome as once
 use Rattle.front_grammar.specs.MetaGrammar.{meta_grammar}
 use Rattle.front_grammar.specs.Outcomes.{Spells}
 use Rattle.front_grammar.specs.Shape.{AreGrammarTrees}
-use Rattle.front_syntax.specs.declared.entries.Entry.{Entry}
+use Rattle.front_syntax.specs.declared.events.TokenEvent.{TokenEvent}
 use Rattle.front_reader.specs.Flaws.{first_flaw}
 use Rattle.front_reader.specs.Reading.{ReadsRules}
 use Rattle.format_grammar.specs.Formatting.{AreTokens, SameTokens}
@@ -33,11 +33,11 @@ HaveShape : Type 0
 HaveShape = (text : List ℕ) (us : Trees) → IsUtf8 text → Spells grammar_rules text us → AreGrammarTrees text us
 
 -- a text of the tokens of another is read as all rules that this is read as
-read_again : HaveShape → (text other : List ℕ) (entries others : List Entry) → IsUtf8 text → AreTokens text entries → AreTokens other others
-    → SameTokens text entries other others → (rules : Grammar) → IsReadAs text rules → IsReadAs other rules
+read_again : HaveShape → (text other : List ℕ) (events others : List TokenEvent) → IsUtf8 text → AreTokens text events → AreTokens other others
+    → SameTokens text events other others → (rules : Grammar) → IsReadAs text rules → IsReadAs other rules
 unfolding HaveShape
-read_again shape text other entries others utf8 of_text of_other same rules h =
-    let similar = similar_trees text other entries others of_text.0 of_other.0 of_text.2 of_other.2
+read_again shape text other events others utf8 of_text of_other same rules h =
+    let similar = similar_trees text other events others of_text.0 of_other.0 of_text.2 of_other.2
     (grammar text (shape text of_text.0 utf8 of_text.1)) same in
     let e = spelled_once grammar_rules text h.trees of_text.0 h.spelled of_text.1 in
     let read = rules_same text other (subst (λ (us : Trees). ReadsRules text us h.spanned) e h.read) similar in
@@ -51,13 +51,13 @@ read_again shape text other entries others utf8 of_text of_other same rules h =
     }
 
 pub same_rules : ((text : List ℕ) (us : Trees) → IsUtf8 text → Spells grammar_rules text us → AreGrammarTrees text us)
-    → (text other : List ℕ) (entries others : List Entry) → IsUtf8 text → IsUtf8 other → AreTokens text entries → AreTokens other others
-    → SameTokens text entries other others → SameRules text other
+    → (text other : List ℕ) (events others : List TokenEvent) → IsUtf8 text → IsUtf8 other → AreTokens text events → AreTokens other others
+    → SameTokens text events other others → SameRules text other
 unfolding HaveShape
-same_rules shape text other entries others utf8 utf8' of_text of_other same = record {
+same_rules shape text other events others utf8 utf8' of_text of_other same = record {
   same = λ rules. (
-    read_again shape text other entries others utf8 of_text of_other same rules,
-    read_again shape other text others entries utf8' of_other of_text (sym same) rules,
+    read_again shape text other events others utf8 of_text of_other same rules,
+    read_again shape other text others events utf8' of_other of_text (sym same) rules,
   );
 }
 

@@ -4,7 +4,7 @@ use crate::gaps::{Comment, Gap, find_line_feed, has_line_end, scan_gap, trim_end
 use crate::operators::{count_moved, move_comments, stay_after};
 use crate::pieces::{Fill, Item, ItemKind, Piece, Separator};
 use base_language::grammar::Rule;
-use front_syntax::entries::Entry;
+use front_syntax::events::TokenEvent;
 use std::alloc::{AllocError, Global};
 
 /// An expression that is not yet complete.
@@ -38,7 +38,7 @@ pub struct Builder<'t> {
     holds_literal: bool,
     /// Whether a blank follows the next comma.
     has_two_counts: bool,
-    /// The number of the first entry that is not yet written.
+    /// The number of the first event that is not yet written.
     next: usize,
 }
 
@@ -50,17 +50,17 @@ struct Token {
     pos: usize,
     /// The byte after it.
     end: usize,
-    /// The number of its last entry.
+    /// The number of its last event.
     last: usize,
-    /// The byte of the entry after that.
+    /// The byte of the event after that.
     next: usize,
 }
 
-/// Returns the byte of the entry of a number, or this byte.
-fn position_of(entries: &[Entry], i: usize, pos: usize) -> usize {
-    match entries.get(i) {
-        Some(Entry::Start { pos, .. }) => *pos,
-        Some(Entry::End { pos, .. }) => *pos,
+/// Returns the byte of the event of a number, or this byte.
+fn position_of(events: &[TokenEvent], i: usize, pos: usize) -> usize {
+    match events.get(i) {
+        Some(TokenEvent::Start { pos, .. }) => *pos,
+        Some(TokenEvent::End { pos, .. }) => *pos,
         None => pos,
     }
 }
@@ -69,9 +69,9 @@ fn position_of(entries: &[Entry], i: usize, pos: usize) -> usize {
 pub fn build<'t>(
     alloc: Global,
     text: &'t str,
-    entries: &[Entry],
+    events: &[TokenEvent],
 ) -> Result<Builder<'t>, AllocError> {
-    let forms = find_forms(alloc, text, entries)?;
+    let forms = find_forms(alloc, text, events)?;
     let mut builder = Builder {
         text,
         pieces: Vec::new(alloc),
@@ -86,19 +86,19 @@ pub fn build<'t>(
         has_two_counts: false,
         next: 0,
     };
-    for i in 0..entries.len() {
+    for i in 0..events.len() {
         if i < builder.next {
             continue;
         }
-        match entries[i] {
-            Entry::Start { rule, pos, partner } => {
-                let end = position_of(entries, partner, pos);
+        match events[i] {
+            TokenEvent::Start { rule, pos, partner } => {
+                let end = position_of(events, partner, pos);
                 let token = Token {
                     rule,
                     pos,
                     end,
                     last: partner,
-                    next: position_of(entries, partner.saturating_add(1), end),
+                    next: position_of(events, partner.saturating_add(1), end),
                 };
                 builder.start(
                     alloc,
@@ -106,13 +106,13 @@ pub fn build<'t>(
                     forms.get(i).copied().unwrap_or(ExpressionForm::Sequence),
                 )?;
             }
-            Entry::End { partner, .. } => {
+            TokenEvent::End { partner, .. } => {
                 if let Some(
-                    Entry::Start {
+                    TokenEvent::Start {
                         rule: Rule::expression,
                         ..
                     },
-                ) = entries.get(partner)
+                ) = events.get(partner)
                 {
                     builder.end_expression()?;
                 }

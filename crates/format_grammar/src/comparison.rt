@@ -4,12 +4,12 @@ ghost use Rattle.std.specs.List.{slice_range};
 ghost use Rattle.format_grammar.specs.Comments as comment;
 ghost use Rattle.format_grammar.specs.Formatting.{EndsOnce};
 ghost use Rattle.format_grammar.specs.Tokens as token;
-ghost use Rattle.front_syntax.specs.declared.entries.Entry.TheVariants.{End};
+ghost use Rattle.front_syntax.specs.declared.events.TokenEvent.TheVariants.{End};
 
 use crate::contents::{comments_of, has_blank_end, is_all_white, trim_lines};
 use base_language::derived::equality_of_rules;
 use base_language::grammar::Rule;
-use front_syntax::entries::Entry;
+use front_syntax::events::TokenEvent;
 use std::alloc::{AllocError, Global};
 
 /// Returns the bytes `start..end`, up to the end of the text.
@@ -25,12 +25,12 @@ fn part(text: &[u8], start: usize, end: usize) -> &[u8]
 }
 
 /// Returns the byte at which a token starts or ends.
-fn place_of(entry: Entry) -> usize
-    ensures { result ≡ token.place_of entry }
+fn place_of(event: TokenEvent) -> usize
+    ensures { result ≡ token.place_of event }
 {
-    match entry {
-        Entry::Start { pos, .. } => pos,
-        Entry::End { pos, .. } => pos,
+    match event {
+        TokenEvent::Start { pos, .. } => pos,
+        TokenEvent::End { pos, .. } => pos,
     }
 }
 
@@ -42,22 +42,22 @@ fn is_same_rule(rule: Rule, other: Rule) -> bool
     rule == other
 }
 
-/// Returns whether two entries are equal, except for their positions.
-fn is_same_entry(entry: Entry, other: Entry) -> bool
-    ensures { result ≡ true → token.unplaced entry ≡ token.unplaced other }
+/// Returns whether two events are equal, except for their positions.
+fn is_same_event(event: TokenEvent, other: TokenEvent) -> bool
+    ensures { result ≡ true → token.unplaced event ≡ token.unplaced other }
 {
-    match (entry, other) {
+    match (event, other) {
         (
-            Entry::Start { rule, partner, .. },
-            Entry::Start {
+            TokenEvent::Start { rule, partner, .. },
+            TokenEvent::Start {
                 rule: other_rule,
                 partner: other_partner,
                 ..
             },
         ) => is_same_rule(rule, other_rule) && partner == other_partner,
         (
-            Entry::End { partner, .. },
-            Entry::End {
+            TokenEvent::End { partner, .. },
+            TokenEvent::End {
                 partner: other_partner,
                 ..
             },
@@ -124,30 +124,30 @@ fn is_same_gap(alloc: Global, gap: &[u8], other: &[u8]) -> Result<bool, AllocErr
     Ok(comments.as_slice() == other_comments.as_slice())
 }
 
-/// Returns whether two neighbouring entries of each text, the last ones and those after them, have the same
+/// Returns whether two neighbouring events of each text, the last ones and those after them, have the same
 /// text between them, if they are the start and the end of a token without children.
 fn is_same_leaf(
     alloc: Global,
     text: &[u8],
-    last: Entry,
-    entry: Entry,
+    last: TokenEvent,
+    event: TokenEvent,
     other: &[u8],
-    other_last: Entry,
-    other_entry: Entry,
+    other_last: TokenEvent,
+    other_event: TokenEvent,
 ) -> Result<bool, AllocError>
     ensures { IfOk result (λ same. same ≡ true
-        → token.text_between text.now last entry ≡ token.text_between other.now other_last other_entry) }
+        → token.text_between text.now last event ≡ token.text_between other.now other_last other_event) }
 {
-    match (last, entry, other_last, other_entry) {
+    match (last, event, other_last, other_event) {
         (
-            Entry::Start { rule, pos, .. },
-            Entry::End { pos: end, .. },
-            Entry::Start {
+            TokenEvent::Start { rule, pos, .. },
+            TokenEvent::End { pos: end, .. },
+            TokenEvent::Start {
                 rule: other_rule,
                 pos: other_pos,
                 ..
             },
-            Entry::End { pos: other_end, .. },
+            TokenEvent::End { pos: other_end, .. },
         ) => is_same_token(
             alloc,
             rule,
@@ -155,20 +155,20 @@ fn is_same_leaf(
             other_rule,
             part(other, other_pos, other_end),
         ),
-        (Entry::Start { .. }, Entry::End { .. }, _, _) => Ok(false),
-        (_, _, Entry::Start { .. }, Entry::End { .. }) => Ok(false),
+        (TokenEvent::Start { .. }, TokenEvent::End { .. }, _, _) => Ok(false),
+        (_, _, TokenEvent::Start { .. }, TokenEvent::End { .. }) => Ok(false),
         _ => Ok(true),
     }
 }
 
-/// Returns the gap between two neighbouring entries; an empty one if they are the start and the end of a
+/// Returns the gap between two neighbouring events; an empty one if they are the start and the end of a
 /// token without children.
-fn gap_between(text: &[u8], last: Entry, entry: Entry) -> &[u8]
-    ensures { comment.comments_of result.now ≡ token.comments_between text.entry.now last entry }
+fn gap_between(text: &[u8], last: TokenEvent, event: TokenEvent) -> &[u8]
+    ensures { comment.comments_of result.now ≡ token.comments_between text.entry.now last event }
 {
-    match (last, entry) {
-        (Entry::Start { .. }, Entry::End { .. }) => &text[..0],
-        _ => part(text, place_of(last), place_of(entry)),
+    match (last, event) {
+        (TokenEvent::Start { .. }, TokenEvent::End { .. }) => &text[..0],
+        _ => part(text, place_of(last), place_of(event)),
     }
 }
 
@@ -179,15 +179,15 @@ fn is_operator(rule: Rule) -> bool
     matches!(rule, Rule::choice_operator | Rule::sequence_operator)
 }
 
-/// Returns whether no token begins between the gap of two neighbouring entries and the next gap, except for
+/// Returns whether no token begins between the gap of two neighbouring events and the next gap, except for
 /// an infix operator.
-fn leads_on(last: Entry, entry: Entry) -> bool
-    ensures { result ≡ token.leads_on last entry }
+fn leads_on(last: TokenEvent, event: TokenEvent) -> bool
+    ensures { result ≡ token.leads_on last event }
 {
-    match (last, entry) {
-        (Entry::Start { rule, .. }, _) => is_operator(rule),
-        (Entry::End { .. }, Entry::Start { rule, .. }) => is_operator(rule),
-        (Entry::End { .. }, Entry::End { .. }) => true,
+    match (last, event) {
+        (TokenEvent::Start { rule, .. }, _) => is_operator(rule),
+        (TokenEvent::End { .. }, TokenEvent::Start { rule, .. }) => is_operator(rule),
+        (TokenEvent::End { .. }, TokenEvent::End { .. }) => true,
     }
 }
 
@@ -247,41 +247,41 @@ fn add_comments(alloc: Global, gap: &[u8], comments: &mut Vec<u8>) -> Result<(),
 pub fn is_same(
     alloc: Global,
     text: &[u8],
-    entries: &[Entry],
+    events: &[TokenEvent],
     other: &[u8],
-    others: &[Entry],
+    others: &[TokenEvent],
 ) -> Result<bool, AllocError>
     ensures tokens { IfOk result (λ same. same ≡ true
-        → token.tokens_after text.now (End 0 0) entries.now
+        → token.tokens_after text.now (End 0 0) events.now
         ≡ token.tokens_after other.now (End 0 0) others.now) }
     ensures comments { IfOk result (λ same. same ≡ true
-        → token.comments_after text.now [] (End 0 0) entries.now
+        → token.comments_after text.now [] (End 0 0) events.now
         ≡ token.comments_after other.now [] (End 0 0) others.now) }
 {
-    let mut last = Entry::End { pos: 0, partner: 0 };
+    let mut last = TokenEvent::End { pos: 0, partner: 0 };
     let mut other_last = last;
-    let mut rest = entries;
+    let mut rest = events;
     let mut other_rest = others;
     let mut leading = Leading {
         comments: Vec::new(alloc),
         others: Vec::new(alloc),
     };
-    while let Some((entry, after)) = rest.split_first() {
-        let Some((other_entry, other_after)) = other_rest.split_first() else {
+    while let Some((event, after)) = rest.split_first() {
+        let Some((other_event, other_after)) = other_rest.split_first() else {
             return Ok(false);
         };
-        let gap = gap_between(text, last, *entry);
-        let other_gap = gap_between(other, other_last, *other_entry);
-        let leads = leads_on(last, *entry);
-        let is_same = leads == leads_on(other_last, *other_entry)
-            && is_same_entry(*entry, *other_entry)
-            && is_same_leaf(alloc, text, last, *entry, other, other_last, *other_entry)?
+        let gap = gap_between(text, last, *event);
+        let other_gap = gap_between(other, other_last, *other_event);
+        let leads = leads_on(last, *event);
+        let is_same = leads == leads_on(other_last, *other_event)
+            && is_same_event(*event, *other_event)
+            && is_same_leaf(alloc, text, last, *event, other, other_last, *other_event)?
             && leading.is_same(alloc, gap, other_gap, leads)?;
         if !is_same {
             return Ok(false);
         }
-        last = *entry;
-        other_last = *other_entry;
+        last = *event;
+        other_last = *other_event;
         rest = after;
         other_rest = other_after;
     }
@@ -293,28 +293,28 @@ pub fn is_same(
     leading.is_same(alloc, gap, other_gap, false)
 }
 
-/// Returns whether no line ends with a blank between two neighbouring entries, or in a doc comment before
+/// Returns whether no line ends with a blank between two neighbouring events, or in a doc comment before
 /// them.
-fn is_clean_between(text: &[u8], last: Entry, entry: Entry) -> bool
-    ensures { result ≡ true → token.is_clean_between text.now last entry ≡ true }
+fn is_clean_between(text: &[u8], last: TokenEvent, event: TokenEvent) -> bool
+    ensures { result ≡ true → token.is_clean_between text.now last event ≡ true }
 {
-    match (last, entry) {
-        (Entry::Start { .. }, Entry::End { .. }) => true,
-        _ => !has_blank_end(part(text, place_of(last).saturating_sub(1), place_of(entry))),
+    match (last, event) {
+        (TokenEvent::Start { .. }, TokenEvent::End { .. }) => true,
+        _ => !has_blank_end(part(text, place_of(last).saturating_sub(1), place_of(event))),
     }
 }
 
 /// Returns whether no line ends with a blank in a gap or a doc comment.
-pub fn has_clean_lines(text: &[u8], entries: &[Entry]) -> bool
-    ensures { result ≡ true → token.has_clean_lines text.now (End 0 0) entries.now ≡ true }
+pub fn has_clean_lines(text: &[u8], events: &[TokenEvent]) -> bool
+    ensures { result ≡ true → token.has_clean_lines text.now (End 0 0) events.now ≡ true }
 {
-    let mut last = Entry::End { pos: 0, partner: 0 };
-    let mut rest = entries;
-    while let Some((entry, after)) = rest.split_first() {
-        if !is_clean_between(text, last, *entry) {
+    let mut last = TokenEvent::End { pos: 0, partner: 0 };
+    let mut rest = events;
+    while let Some((event, after)) = rest.split_first() {
+        if !is_clean_between(text, last, *event) {
             return false;
         }
-        last = *entry;
+        last = *event;
         rest = after;
     }
     true

@@ -1,7 +1,7 @@
 //! The forms of expressions, found before they are built.
 use crate::gaps::{has_line_end, scan_gap};
 use base_language::grammar::Rule;
-use front_syntax::entries::Entry;
+use front_syntax::events::TokenEvent;
 use std::alloc::{AllocError, Global};
 
 /// The form of an expression.
@@ -18,7 +18,7 @@ pub enum ExpressionForm {
 /// An expression of which not all is read.
 #[derive(Clone, Copy)]
 struct Open {
-    /// The number of its first entry.
+    /// The number of its first event.
     first: usize,
     has_bar: bool,
     /// Whether all alternatives are terms without parentheses.
@@ -27,26 +27,26 @@ struct Open {
     is_packed: bool,
 }
 
-/// Returns the position of the entry of a number, or 0.
-fn position_of(entries: &[Entry], i: usize) -> usize {
-    match entries.get(i) {
-        Some(Entry::Start { pos, .. }) => *pos,
-        Some(Entry::End { pos, .. }) => *pos,
+/// Returns the position of the event of a number, or 0.
+fn position_of(events: &[TokenEvent], i: usize) -> usize {
+    match events.get(i) {
+        Some(TokenEvent::Start { pos, .. }) => *pos,
+        Some(TokenEvent::End { pos, .. }) => *pos,
         None => 0,
     }
 }
 
-/// Returns the forms of the expressions, by the numbers of their entries.
+/// Returns the forms of the expressions, by the numbers of their events.
 pub fn find_forms(
     alloc: Global,
     text: &str,
-    entries: &[Entry],
+    events: &[TokenEvent],
 ) -> Result<Vec<ExpressionForm>, AllocError> {
-    let mut forms = vec![in alloc; ExpressionForm::Sequence; entries.len()]?;
+    let mut forms = vec![in alloc; ExpressionForm::Sequence; events.len()]?;
     let mut around: Vec<Open> = Vec::new(alloc);
-    for i in 0..entries.len() {
-        match entries[i] {
-            Entry::Start {
+    for i in 0..events.len() {
+        match events[i] {
+            TokenEvent::Start {
                 rule: Rule::expression,
                 ..
             } => around.push(Open {
@@ -55,14 +55,14 @@ pub fn find_forms(
                 has_words: true,
                 is_packed: false,
             })?,
-            Entry::Start { rule, .. } => {
+            TokenEvent::Start { rule, .. } => {
                 if let Some(open) = around.last_mut() {
-                    *open = read_token(alloc, text, entries, i, rule, *open)?;
+                    *open = read_token(alloc, text, events, i, rule, *open)?;
                 }
             }
-            Entry::End { partner, .. } => {
+            TokenEvent::End { partner, .. } => {
                 if is_open(&around, partner) {
-                    close(text, entries, i, &mut around, &mut forms);
+                    close(text, events, i, &mut around, &mut forms);
                 }
             }
         }
@@ -70,7 +70,7 @@ pub fn find_forms(
     Ok(forms)
 }
 
-/// Returns whether the innermost open expression has this first entry.
+/// Returns whether the innermost open expression has this first event.
 fn is_open(around: &[Open], first: usize) -> bool {
     match around.last() {
         Some(open) => open.first == first,
@@ -78,26 +78,26 @@ fn is_open(around: &[Open], first: usize) -> bool {
     }
 }
 
-/// Closes the innermost open expression, whose last entry has the number `last`.
+/// Closes the innermost open expression, whose last event has the number `last`.
 fn close(
     text: &str,
-    entries: &[Entry],
+    events: &[TokenEvent],
     last: usize,
     around: &mut Vec<Open>,
     forms: &mut [ExpressionForm],
 ) {
     if let Some(open) = around.pop() {
         if let Some(form) = forms.get_mut(open.first) {
-            *form = form_of(text, entries, open, last);
+            *form = form_of(text, events, open, last);
         }
     }
 }
 
-/// Returns what is known of an expression after the start of a token in it, the entry of the number `i`.
+/// Returns what is known of an expression after the start of a token in it, the event of the number `i`.
 fn read_token(
     alloc: Global,
     text: &str,
-    entries: &[Entry],
+    events: &[TokenEvent],
     i: usize,
     rule: Rule,
     open: Open,
@@ -110,7 +110,7 @@ fn read_token(
         Rule::choice_operator => {
             let is_infix = i > open.first.saturating_add(1);
             let is_packed = open.is_packed
-                || (is_infix && open.has_words && is_on_one_line(alloc, text, entries, i)?);
+                || (is_infix && open.has_words && is_on_one_line(alloc, text, events, i)?);
             Ok(Open {
                 has_bar: true,
                 is_packed,
@@ -121,48 +121,43 @@ fn read_token(
     }
 }
 
-/// Returns the byte after the last word before the entry of a number. Tokens with children end after the
+/// Returns the byte after the last word before the event of a number. Tokens with children end after the
 /// comments after their last word.
-fn end_before(entries: &[Entry], i: usize) -> usize {
+fn end_before(events: &[TokenEvent], i: usize) -> usize {
     for k in (0..i).rev() {
-        match entries.get(k) {
-            Some(Entry::End { pos, partner }) if partner.saturating_add(1) == k => return *pos,
-            Some(Entry::End { .. }) => {}
-            _ => return position_of(entries, k),
+        match events.get(k) {
+            Some(TokenEvent::End { pos, partner }) if partner.saturating_add(1) == k => return *pos,
+            Some(TokenEvent::End { .. }) => {}
+            _ => return position_of(events, k),
         }
     }
     0
 }
 
-/// Returns whether no line ends around the infix operator whose first entry has the number `i`.
+/// Returns whether no line ends around the infix operator whose first event has the number `i`.
 fn is_on_one_line(
     alloc: Global,
     text: &str,
-    entries: &[Entry],
+    events: &[TokenEvent],
     i: usize,
 ) -> Result<bool, AllocError> {
     let bytes = text.as_bytes();
-    let end = position_of(entries, i.saturating_add(1));
-    let before = scan_gap(
-        alloc,
-        bytes,
-        end_before(entries, i),
-        position_of(entries, i),
-    )?;
-    let after = scan_gap(alloc, bytes, end, position_of(entries, i.saturating_add(2)))?;
+    let end = position_of(events, i.saturating_add(1));
+    let before = scan_gap(alloc, bytes, end_before(events, i), position_of(events, i))?;
+    let after = scan_gap(alloc, bytes, end, position_of(events, i.saturating_add(2)))?;
     Ok(!has_line_end(&before) && !has_line_end(&after))
 }
 
-/// Returns the form of an expression whose last entry has the number `last`.
-fn form_of(text: &str, entries: &[Entry], open: Open, last: usize) -> ExpressionForm {
+/// Returns the form of an expression whose last event has the number `last`.
+fn form_of(text: &str, events: &[TokenEvent], open: Open, last: usize) -> ExpressionForm {
     if !open.has_bar {
         return ExpressionForm::Sequence;
     }
     if !open.has_words || !open.is_packed {
         return ExpressionForm::Choice;
     }
-    let start = end_before(entries, open.first);
-    let end = position_of(entries, last.saturating_add(1));
+    let start = end_before(events, open.first);
+    let end = position_of(events, last.saturating_add(1));
     if text.get(start..end).is_some_and(|body| body.contains('\n')) {
         ExpressionForm::Words
     } else {

@@ -4,7 +4,7 @@
 ghost use Rattle.std.specs.Prelude.{◌≡◌, IfOk, MatchResult, true};
 ghost use Rattle.base_language.specs.declared.grammar.Rule.TheVariants.{grammar_rules};
 ghost use Rattle.front_syntax.specs.Parses.{ParseRefuses};
-ghost use Rattle.front_syntax.specs.declared.entries.Entry.TheVariants.{End};
+ghost use Rattle.front_syntax.specs.declared.events.TokenEvent.TheVariants.{End};
 ghost use Rattle.format_grammar.specs.Formatting.{AreTokens, IsAnswer, IsFormatted, SameComments, SameTokens};
 ghost use Rattle.format_grammar.specs.Reading.{SameRules};
 ghost use Rattle.format_grammar.specs.Tokens as token;
@@ -27,7 +27,7 @@ use crate::laws::same_tokens_have_the_same_rules;
 use crate::layout::{Style, print};
 use base_language::grammar::Rule;
 use base_language::runtime::Fault;
-use front_syntax::entries::Entry;
+use front_syntax::events::TokenEvent;
 use front_syntax::grammar::PestParser;
 use std::alloc::{AllocError, Global};
 
@@ -89,9 +89,9 @@ pub fn format(alloc: Global, text: &str, options: Options) -> Result<Formatted, 
     ensures { MatchResult result (IsAnswer options.line_ends text.now)
         (ParseRefuses grammar_rules text.now) }
 {
-    let entries = PestParser::tokens(alloc, Rule::grammar_rules, text)?;
-    let candidate = print_grammar(alloc, text, &entries, options)?;
-    if is_formatted(alloc, text, &entries, candidate.as_str(), options.line_ends)? {
+    let events = PestParser::tokens(alloc, Rule::grammar_rules, text)?;
+    let candidate = print_grammar(alloc, text, &events, options)?;
+    if is_formatted(alloc, text, &events, candidate.as_str(), options.line_ends)? {
         Ok(Formatted::Text(candidate))
     } else {
         Ok(Formatted::Unchanged)
@@ -102,14 +102,14 @@ pub fn format(alloc: Global, text: &str, options: Options) -> Result<Formatted, 
 fn print_grammar(
     alloc: Global,
     text: &str,
-    entries: &[Entry],
+    events: &[TokenEvent],
     options: Options,
 ) -> Result<String, AllocError> {
     let Builder {
         pieces,
         mut items,
         ..
-    } = build(alloc, text, entries)?;
+    } = build(alloc, text, events)?;
     let style = Style {
         width: options.width,
         indent: options.indent,
@@ -128,12 +128,12 @@ fn line_end_of(text: &str, line_ends: LineEnds) -> &'static str {
 
 /// Returns whether the text of a grammar with these tokens may stay as it is.
 #[tactic(auto, using(crate::proofs::Unchanged::its_own))]
-fn is_its_own(text: &str, entries: &[Entry], line_ends: LineEnds) -> bool
-    requires { AreTokens text.now entries.now }
+fn is_its_own(text: &str, events: &[TokenEvent], line_ends: LineEnds) -> bool
+    requires { AreTokens text.now events.now }
     ensures { result ≡ true → IsFormatted line_ends text.now text.now }
 {
     let bytes = text.as_bytes();
-    has_lines(bytes, entries, line_ends) && ends_once(bytes)
+    has_lines(bytes, events, line_ends) && ends_once(bytes)
 }
 
 /// Returns whether a text is the formatted text of a grammar with these tokens. An equal text is not read
@@ -141,17 +141,17 @@ fn is_its_own(text: &str, entries: &[Entry], line_ends: LineEnds) -> bool
 fn is_formatted(
     alloc: Global,
     text: &str,
-    entries: &[Entry],
+    events: &[TokenEvent],
     candidate: &str,
     line_ends: LineEnds,
 ) -> Result<bool, AllocError>
-    requires { AreTokens text.now entries.now }
+    requires { AreTokens text.now events.now }
     ensures { IfOk result (λ answer. answer ≡ true → IsFormatted line_ends text.now candidate.now) }
 {
     if candidate == text {
-        Ok(is_its_own(text, entries, line_ends))
+        Ok(is_its_own(text, events, line_ends))
     } else {
-        is_equivalent(alloc, text, entries, candidate, line_ends)
+        is_equivalent(alloc, text, events, candidate, line_ends)
     }
 }
 
@@ -159,11 +159,11 @@ fn is_formatted(
 fn is_equivalent(
     alloc: Global,
     text: &str,
-    entries: &[Entry],
+    events: &[TokenEvent],
     candidate: &str,
     line_ends: LineEnds,
 ) -> Result<bool, AllocError>
-    requires { AreTokens text.now entries.now }
+    requires { AreTokens text.now events.now }
     ensures { IfOk result (λ answer. answer ≡ true → IsFormatted line_ends text.now candidate.now) }
 {
     let others = match PestParser::tokens(alloc, Rule::grammar_rules, candidate) {
@@ -175,7 +175,7 @@ fn is_equivalent(
     if !has_lines(bytes, &others, line_ends) || !ends_once(bytes) {
         return Ok(false);
     }
-    is_same_grammar(alloc, text, entries, candidate, &others)
+    is_same_grammar(alloc, text, events, candidate, &others)
 }
 
 /// Returns whether two grammars have the same tokens and the same comments. Their rules are the same then,
@@ -183,31 +183,31 @@ fn is_equivalent(
 fn is_same_grammar(
     alloc: Global,
     text: &str,
-    entries: &[Entry],
+    events: &[TokenEvent],
     other: &str,
-    others: &[Entry],
+    others: &[TokenEvent],
 ) -> Result<bool, AllocError>
-    requires text { AreTokens text.now entries.now }
+    requires text { AreTokens text.now events.now }
     requires other { AreTokens other.now others.now }
     ensures tokens { IfOk result (λ same. same ≡ true
-        → SameTokens text.now entries.now other.now others.now) }
+        → SameTokens text.now events.now other.now others.now) }
     ensures comments { IfOk result (λ same. same ≡ true
-        → SameComments text.now entries.now other.now others.now) }
+        → SameComments text.now events.now other.now others.now) }
     ensures rules { IfOk result (λ same. same ≡ true → SameRules text.now other.now) }
 {
     same_tokens_have_the_same_rules();
     let bytes = text.as_bytes();
     let other_bytes = other.as_bytes();
-    is_same(alloc, bytes, entries, other_bytes, others)
+    is_same(alloc, bytes, events, other_bytes, others)
 }
 
 /// Returns whether no line outside of literals ends with a blank, if lines are to end with line feeds.
-fn has_lines(text: &[u8], entries: &[Entry], line_ends: LineEnds) -> bool
+fn has_lines(text: &[u8], events: &[TokenEvent], line_ends: LineEnds) -> bool
     ensures { result ≡ true → line_ends ≡ LineFeed
-        → token.has_clean_lines text.now (End 0 0) entries.now ≡ true }
+        → token.has_clean_lines text.now (End 0 0) events.now ≡ true }
 {
     match line_ends {
-        LineEnds::LineFeed => has_clean_lines(text, entries),
+        LineEnds::LineFeed => has_clean_lines(text, events),
         LineEnds::OfFirstLine => true,
     }
 }

@@ -26,9 +26,9 @@ use Rattle.format_json.specs.declared.refusal.RefusalLocation.{RefusalLocation}
 use Rattle.format_json.specs.declared.refusal.RefusalLocation.TheVariants as place
 use Rattle.format_json.specs.declared.refusal.RefusalReason.{RefusalReason}
 use Rattle.format_json.specs.Refusals.{message_of}
-use Rattle.format_json.specs.Tokens.{entry_data, tokens_data}
-use Rattle.front_syntax.specs.declared.entries.Entry.{Entry}
-use Rattle.front_syntax.specs.declared.entries.Entry.TheVariants as entry
+use Rattle.format_json.specs.Tokens.{event_data, tokens_data}
+use Rattle.front_syntax.specs.declared.events.TokenEvent.{TokenEvent}
+use Rattle.front_syntax.specs.declared.events.TokenEvent.TheVariants as event
 
 pub then_free : (a b : Bool) → a ≡ false → b ≡ false → (a || (b || false)) ≡ false
 then_free a b h k = or_from a (b || false) h (or_from b false k refl)
@@ -138,9 +138,9 @@ said_at_free (place.Node r n) m = refl
 pub refusal_without_floats : (p : RefusalLocation) (why : RefusalReason) → has_float (refusal_data p why) ≡ false
 refusal_without_floats p why = said_at_free p (message_of why)
 
-entry_free : (e : Entry) → has_float (entry_data e) ≡ false
-entry_free (entry.Start rule place partner) = refl
-entry_free (entry.End place partner) = refl
+event_free : (e : TokenEvent) → has_float (event_data e) ≡ false
+event_free (event.Start rule place partner) = refl
+event_free (event.End place partner) = refl
 
-pub tokens_without_floats : (entries : List Entry) → has_float (tokens_data entries) ≡ false
-tokens_without_floats entries = map_free entry_data entry_free entries
+pub tokens_without_floats : (events : List TokenEvent) → has_float (tokens_data events) ≡ false
+tokens_without_floats events = map_free event_data event_free events

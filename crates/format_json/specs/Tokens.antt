@@ -3,15 +3,15 @@ use Rattle.std.specs.Prelude.{List, [], ◌∷◌, map}
 use Rattle.serde_json.specs.Data.{Data, string}
 use Rattle.base_language.specs.Pieces.MetaRules.{name_of}
 use Rattle.format_json.specs.Errors.{list_data, size_data}
-use Rattle.front_syntax.specs.declared.entries.Entry.{Entry}
-use Rattle.front_syntax.specs.declared.entries.Entry.TheVariants as entry
+use Rattle.front_syntax.specs.declared.events.TokenEvent.{TokenEvent}
+use Rattle.front_syntax.specs.declared.events.TokenEvent.TheVariants as event
 
 -- a token: the rule and the start of a tree, or its end, and the number of the other one
-abbrev pub entry_data : Entry → Data
-entry_data (entry.Start rule place partner) =
+abbrev pub event_data : TokenEvent → Data
+event_data (event.Start rule place partner) =
     list_data (string (name_of rule) ∷ size_data place ∷ size_data partner ∷ [])
-entry_data (entry.End place partner) = list_data (size_data place ∷ size_data partner ∷ [])
+event_data (event.End place partner) = list_data (size_data place ∷ size_data partner ∷ [])
 
 -- a list of tokens
-abbrev pub tokens_data : List Entry → Data
-tokens_data entries = list_data (map entry_data entries)
+abbrev pub tokens_data : List TokenEvent → Data
+tokens_data events = list_data (map event_data events)

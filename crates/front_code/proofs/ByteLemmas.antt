@@ -9,67 +9,67 @@ use Rattle.matcher_code.specs.Sets.{IsSetOf, flag_of}
 use Rattle.matcher_code.specs.Words.{word}
 use Rattle.matcher_code.proofs.SetLemmas.{means_ranges}
 use Rattle.front_code.specs.Codes.{IsExactCode, IsFastCode, exact_ops, exact_sets, fast_ops, fast_sets, texts}
-use Rattle.front_code.specs.declared.constants.TheConstants.{EXACT_ORDERS, EXACT_ROWS, FAST_ORDERS, FAST_ROWS, FAST_TABLES}
+use Rattle.front_code.specs.declared.constants.TheConstants.{EXACT_ORDERS, EXACT_BYTE_SETS, FAST_ORDERS, FAST_BYTE_SETS, FAST_TABLES}
 
--- whether so many flags from a byte on are those of ranges; whether rows have the flags of lists of ranges
+-- whether so many flags from a byte on are those of ranges; whether byte_sets have the flags of lists of ranges
 abbrev has_flags : ℕ → List (ℕ × ℕ) → ℕ → List ℕ → Bool
-has_flags zero ranges b row = true
+has_flags zero ranges b byte_set = true
 has_flags (suc n) ranges b [] = false
-has_flags (suc n) ranges b (x ∷ row) = (x == flag_of ranges b) && has_flags n ranges (suc b) row
+has_flags (suc n) ranges b (x ∷ byte_set) = (x == flag_of ranges b) && has_flags n ranges (suc b) byte_set
 
-abbrev pub has_rows : List (List (ℕ × ℕ)) → List ℕ → Bool
-has_rows [] rows = true
-has_rows (r ∷ rs) rows = has_flags 256 r 0 rows && has_rows rs (drop 256 rows)
+abbrev pub has_byte_sets : List (List (ℕ × ℕ)) → List ℕ → Bool
+has_byte_sets [] byte_sets = true
+has_byte_sets (r ∷ rs) byte_sets = has_flags 256 r 0 byte_sets && has_byte_sets rs (drop 256 byte_sets)
 
-flags_from : (n : ℕ) (ranges : List (ℕ × ℕ)) (b : ℕ) (row : List ℕ) → has_flags n ranges b row ≡ true → (i : ℕ) → i < n
-    → get_or row i 0 ≡ flag_of ranges (b + i)
-flags_from zero ranges b row h i l = absurd (omega (arith, l))
+flags_from : (n : ℕ) (ranges : List (ℕ × ℕ)) (b : ℕ) (byte_set : List ℕ) → has_flags n ranges b byte_set ≡ true → (i : ℕ) → i < n
+    → get_or byte_set i 0 ≡ flag_of ranges (b + i)
+flags_from zero ranges b byte_set h i l = absurd (omega (arith, l))
 flags_from (suc n) ranges b [] h i l = cc
-flags_from (suc n) ranges b (x ∷ row) h zero l =
+flags_from (suc n) ranges b (x ∷ byte_set) h zero l =
     let z : b ≡ b + 0 = omega arith in
-    eqb-true x (flag_of ranges b) (and_parts (x == flag_of ranges b) (has_flags n ranges (suc b) row) h).0 ∙ ap (flag_of ranges) z
-flags_from (suc n) ranges b (x ∷ row) h (suc i) l =
+    eqb-true x (flag_of ranges b) (and_parts (x == flag_of ranges b) (has_flags n ranges (suc b) byte_set) h).0 ∙ ap (flag_of ranges) z
+flags_from (suc n) ranges b (x ∷ byte_set) h (suc i) l =
     let z : suc b + i ≡ b + suc i = omega arith in
-    flags_from n ranges (suc b) row (and_parts (x == flag_of ranges b) (has_flags n ranges (suc b) row) h).1 i (omega (arith, l)) ∙ ap (flag_of ranges) z
+    flags_from n ranges (suc b) byte_set (and_parts (x == flag_of ranges b) (has_flags n ranges (suc b) byte_set) h).1 i (omega (arith, l)) ∙ ap (flag_of ranges) z
 
-pub row_at : (rs : List (List (ℕ × ℕ))) (rows : List ℕ) → has_rows rs rows ≡ true → (i : ℕ) → i < length rs → (b : ℕ) → b < 256
-    → get_or rows (i * 256 + b) 0 ≡ flag_of (get_or rs i []) b
-row_at [] rows h i l b k = absurd (omega (arith, l))
-row_at (r ∷ rs) rows h zero l b k =
+pub byte_set_at : (rs : List (List (ℕ × ℕ))) (byte_sets : List ℕ) → has_byte_sets rs byte_sets ≡ true → (i : ℕ) → i < length rs → (b : ℕ) → b < 256
+    → get_or byte_sets (i * 256 + b) 0 ≡ flag_of (get_or rs i []) b
+byte_set_at [] byte_sets h i l b k = absurd (omega (arith, l))
+byte_set_at (r ∷ rs) byte_sets h zero l b k =
     let z : zero * 256 + b ≡ b = omega arith in
-    ap (λ j. get_or rows j 0) z ∙ flags_from 256 r 0 rows (and_parts (has_flags 256 r 0 rows) (has_rows rs (drop 256 rows)) h).0 b k ∙ ap (flag_of r) (let y : 0 + b ≡ b = omega arith in y)
-row_at (r ∷ rs) rows h (suc i) l b k =
+    ap (λ j. get_or byte_sets j 0) z ∙ flags_from 256 r 0 byte_sets (and_parts (has_flags 256 r 0 byte_sets) (has_byte_sets rs (drop 256 byte_sets)) h).0 b k ∙ ap (flag_of r) (let y : 0 + b ≡ b = omega arith in y)
+byte_set_at (r ∷ rs) byte_sets h (suc i) l b k =
     let z : suc i * 256 + b ≡ 256 + (i * 256 + b) = omega arith in
-    ap (λ j. get_or rows j 0) z ∙ (sym (get_or-drop 256 rows (i * 256 + b) 0)
-    ∙ row_at rs (drop 256 rows) (and_parts (has_flags 256 r 0 rows) (has_rows rs (drop 256 rows)) h).1 i (omega (arith, l)) b k)
+    ap (λ j. get_or byte_sets j 0) z ∙ (sym (get_or-drop 256 byte_sets (i * 256 + b) 0)
+    ∙ byte_set_at rs (drop 256 byte_sets) (and_parts (has_flags 256 r 0 byte_sets) (has_byte_sets rs (drop 256 byte_sets)) h).1 i (omega (arith, l)) b k)
 
-long_row : (n : ℕ) (ranges : List (ℕ × ℕ)) (b : ℕ) (row : List ℕ) → has_flags n ranges b row ≡ true → n ≤ length row
-long_row zero ranges b row h = omega arith
-long_row (suc n) ranges b [] h = absurd (cc)
-long_row (suc n) ranges b (x ∷ row) h = omega (arith, long_row n ranges (suc b) row (and_parts (x == flag_of ranges b) (has_flags n ranges (suc b) row) h).1)
+long_byte_set : (n : ℕ) (ranges : List (ℕ × ℕ)) (b : ℕ) (byte_set : List ℕ) → has_flags n ranges b byte_set ≡ true → n ≤ length byte_set
+long_byte_set zero ranges b byte_set h = omega arith
+long_byte_set (suc n) ranges b [] h = absurd (cc)
+long_byte_set (suc n) ranges b (x ∷ byte_set) h = omega (arith, long_byte_set n ranges (suc b) byte_set (and_parts (x == flag_of ranges b) (has_flags n ranges (suc b) byte_set) h).1)
 
-pub long_rows : (rs : List (List (ℕ × ℕ))) (rows : List ℕ) → has_rows rs rows ≡ true → length rs * 256 ≤ length rows
-long_rows [] rows h = omega arith
-long_rows (r ∷ rs) rows h =
-    let both = and_parts (has_flags 256 r 0 rows) (has_rows rs (drop 256 rows)) h in
-    omega (arith, long_row 256 r 0 rows both.0, long_rows rs (drop 256 rows) both.1, length-drop 256 rows)
+pub long_byte_sets : (rs : List (List (ℕ × ℕ))) (byte_sets : List ℕ) → has_byte_sets rs byte_sets ≡ true → length rs * 256 ≤ length byte_sets
+long_byte_sets [] byte_sets h = omega arith
+long_byte_sets (r ∷ rs) byte_sets h =
+    let both = and_parts (has_flags 256 r 0 byte_sets) (has_byte_sets rs (drop 256 byte_sets)) h in
+    omega (arith, long_byte_set 256 r 0 byte_sets both.0, long_byte_sets rs (drop 256 byte_sets) both.1, length-drop 256 byte_sets)
 
 covered_at : (rs : List (List (ℕ × ℕ))) (i : ℕ) → i < length rs → get_or (map is_covered rs) i no_characters ≡ is_covered (get_or rs i [])
 covered_at [] i l = absurd (omega (arith, l))
 covered_at (r ∷ rs) zero l = refl
 covered_at (r ∷ rs) (suc i) l = covered_at rs i (omega (arith, l))
 
-module _ (code : CodeLists) (ranges : List (List (ℕ × ℕ))) (same : code.sets ≡ map is_covered ranges) (right : has_rows ranges code.rows ≡ true) where
+module _ (code : CodeLists) (ranges : List (List (ℕ × ℕ))) (same : code.sets ≡ map is_covered ranges) (right : has_byte_sets ranges code.byte_sets ≡ true) where
   right_sets : (i : ℕ) → i < length ranges → IsSetOf code i (get_or ranges i [])
   right_sets i l =
       means_ranges code i (get_or ranges i []) (ap (λ fs. get_or fs i no_characters) same ∙ covered_at ranges i l)
-      (λ b k. row_at ranges code.rows right i l b k)
+      (λ b k. byte_set_at ranges code.byte_sets right i l b k)
 
 -- the exact code in bytes
 abbrev pub exact_lists : CodeLists
 exact_lists = record {
   ops = exact_ops;
-  rows = EXACT_ROWS;
+  byte_sets = EXACT_BYTE_SETS;
   sets = sets_in EXACT_ORDERS exact_sets;
   tables = [];
   texts = texts;
@@ -79,11 +79,11 @@ exact_lists = record {
 same_exact_sets : exact_lists.sets ≡ map is_covered exact_sets
 same_exact_sets = refl
 
-pub right_exact_rows : has_rows exact_sets EXACT_ROWS ≡ true
-right_exact_rows = refl
+pub right_exact_byte_sets : has_byte_sets exact_sets EXACT_BYTE_SETS ≡ true
+right_exact_byte_sets = refl
 
 pub exact_bytes : IsExactCode exact_lists
-exact_bytes = record { ops = refl; texts = refl; sets = right_sets exact_lists exact_sets same_exact_sets right_exact_rows }
+exact_bytes = record { ops = refl; texts = refl; sets = right_sets exact_lists exact_sets same_exact_sets right_exact_byte_sets }
 
 -- the fast code in bytes
 abbrev pub fast_tables : List ℕ
@@ -92,7 +92,7 @@ fast_tables = map word FAST_TABLES
 abbrev pub fast_lists : CodeLists
 fast_lists = record {
   ops = fast_ops;
-  rows = FAST_ROWS;
+  byte_sets = FAST_BYTE_SETS;
   sets = sets_in FAST_ORDERS fast_sets;
   tables = fast_tables;
   texts = texts;
@@ -102,8 +102,8 @@ fast_lists = record {
 same_fast_sets : fast_lists.sets ≡ map is_covered fast_sets
 same_fast_sets = refl
 
-pub right_fast_rows : has_rows fast_sets FAST_ROWS ≡ true
-right_fast_rows = refl
+pub right_fast_byte_sets : has_byte_sets fast_sets FAST_BYTE_SETS ≡ true
+right_fast_byte_sets = refl
 
 pub fast_bytes : IsFastCode fast_lists
-fast_bytes = record { ops = refl; texts = refl; sets = right_sets fast_lists fast_sets same_fast_sets right_fast_rows }
+fast_bytes = record { ops = refl; texts = refl; sets = right_sets fast_lists fast_sets same_fast_sets right_fast_byte_sets }

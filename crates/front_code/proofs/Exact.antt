@@ -16,7 +16,7 @@ use Rattle.front_code.specs.Numbers.{number_of}
 use Rattle.front_code.proofs.Characters.{one_any, one_called, one_of_two, one_other, one_range, one_text}
 use Rattle.front_code.proofs.Flattening.{whole_code}
 use Rattle.front_code.proofs.Outside.{outside_choice, outside_seq, outside_set, outside_sub, outside_text, takes_other}
-use Rattle.front_code.proofs.Shapes.{Laid, Setting, all_of, at_once, at_point, atomic, behind_all, between, calls, comments, compound, either, end, enters, gap, has_op, many, maybe, never, one_of, start, tested, tight_atomic, tight_between, tries, turns, within, word}
+use Rattle.front_code.proofs.Shapes.{Laid, Setting, all_of, at_once, at_point, atomic, behind_all, between, calls, comments, compound, either, end, enters, trivia, has_op, many, maybe, never, one_of, start, tested, tight_atomic, tight_between, tries, turns, within, word}
 
 -- the calls of the rules from outside, and the bodies that are called
 pub called : List Point
@@ -734,11 +734,11 @@ module _ (classes : Classes) (code : CodeLists) (is : IsExactCode code) where
 
   grammar_rules_plain_apart : Laid s (Run NonAtomicMode (body_of rule.grammar_rules)) 71 72 0
   unfolding whitespace comment
-  grammar_rules_plain_apart = seq 201 202 (seq 203 204 (seq 205 206 (start s tt refl) (gap s 207 208 at_skipping refl refl) (turns s 206 209 210 211 212 refl (at_once s) refl refl (gap s 207 208 at_skipping refl refl) (calls s rule.grammar_doc 195 196 at_grammar_doc_compound refl refl refl refl refl) refl)) (gap s 207 208 at_skipping refl refl) (turns s 204 213 214 215 216 refl (at_once s) refl refl (gap s 207 208 at_skipping refl refl) (calls s rule.grammar_rule 73 74 at_grammar_rule_plain refl refl refl refl refl) refl)) (gap s 207 208 at_skipping refl refl) (end s 217 218 tt refl refl refl refl)
+  grammar_rules_plain_apart = seq 201 202 (seq 203 204 (seq 205 206 (start s tt refl) (trivia s 207 208 at_skipping refl refl) (turns s 206 209 210 211 212 refl (at_once s) refl refl (trivia s 207 208 at_skipping refl refl) (calls s rule.grammar_doc 195 196 at_grammar_doc_compound refl refl refl refl refl) refl)) (trivia s 207 208 at_skipping refl refl) (turns s 204 213 214 215 216 refl (at_once s) refl refl (trivia s 207 208 at_skipping refl refl) (calls s rule.grammar_rule 73 74 at_grammar_rule_plain refl refl refl refl refl) refl)) (trivia s 207 208 at_skipping refl refl) (end s 217 218 tt refl refl refl refl)
 
   grammar_rule_plain : Laid s (Run NonAtomicMode (body_of rule.grammar_rule)) 73 74 0
   unfolding whitespace comment
-  grammar_rule_plain = either s 219 73 219 refl (at_once s) (tries s 220 222 223 221 refl (seq 224 225 (seq 226 227 (seq 228 229 (seq 230 231 (calls s rule.identifier 151 152 at_identifier_atomic refl refl refl refl refl) (gap s 207 208 at_skipping refl refl) (calls s rule.assignment_operator 75 76 at_assignment_operator_plain refl refl refl refl refl)) (gap s 207 208 at_skipping refl refl) (maybe s 229 refl (at_once s) (within s rule.modifier refl refl refl (either s 232 229 232 refl (at_once s) (either s 233 229 233 refl (at_once s) (either s 234 229 234 refl (at_once s) (calls s rule.silent_modifier 91 92 at_silent_modifier_plain refl refl refl refl refl) (at_once s) (calls s rule.atomic_modifier 93 94 at_atomic_modifier_plain refl refl refl refl refl)) (at_once s) (calls s rule.compound_atomic_modifier 95 96 at_compound_atomic_modifier_plain refl refl refl refl refl)) (at_once s) (calls s rule.non_atomic_modifier 97 98 at_non_atomic_modifier_plain refl refl refl refl refl))))) (gap s 207 208 at_skipping refl refl) (calls s rule.opening_brace 77 78 at_opening_brace_plain refl refl refl refl refl)) (gap s 207 208 at_skipping refl refl) (calls s rule.expression 103 104 at_expression_plain refl refl refl refl refl)) (gap s 207 208 at_skipping refl refl) (calls s rule.closing_brace 79 80 at_closing_brace_plain refl refl refl refl refl) refl) (at_once s) (calls s rule.line_doc 197 198 at_line_doc_compound refl refl refl refl refl)
+  grammar_rule_plain = either s 219 73 219 refl (at_once s) (tries s 220 222 223 221 refl (seq 224 225 (seq 226 227 (seq 228 229 (seq 230 231 (calls s rule.identifier 151 152 at_identifier_atomic refl refl refl refl refl) (trivia s 207 208 at_skipping refl refl) (calls s rule.assignment_operator 75 76 at_assignment_operator_plain refl refl refl refl refl)) (trivia s 207 208 at_skipping refl refl) (maybe s 229 refl (at_once s) (within s rule.modifier refl refl refl (either s 232 229 232 refl (at_once s) (either s 233 229 233 refl (at_once s) (either s 234 229 234 refl (at_once s) (calls s rule.silent_modifier 91 92 at_silent_modifier_plain refl refl refl refl refl) (at_once s) (calls s rule.atomic_modifier 93 94 at_atomic_modifier_plain refl refl refl refl refl)) (at_once s) (calls s rule.compound_atomic_modifier 95 96 at_compound_atomic_modifier_plain refl refl refl refl refl)) (at_once s) (calls s rule.non_atomic_modifier 97 98 at_non_atomic_modifier_plain refl refl refl refl refl))))) (trivia s 207 208 at_skipping refl refl) (calls s rule.opening_brace 77 78 at_opening_brace_plain refl refl refl refl refl)) (trivia s 207 208 at_skipping refl refl) (calls s rule.expression 103 104 at_expression_plain refl refl refl refl refl)) (trivia s 207 208 at_skipping refl refl) (calls s rule.closing_brace 79 80 at_closing_brace_plain refl refl refl refl refl) refl) (at_once s) (calls s rule.line_doc 197 198 at_line_doc_compound refl refl refl refl refl)
 
   assignment_operator_plain : Laid s (Run NonAtomicMode (body_of rule.assignment_operator)) 75 76 0
   unfolding whitespace comment
@@ -794,19 +794,19 @@ module _ (classes : Classes) (code : CodeLists) (is : IsExactCode code) where
 
   node_tag_plain_apart : Laid s (Run NonAtomicMode (body_of rule.node_tag)) 101 102 0
   unfolding whitespace comment
-  node_tag_plain_apart = seq 240 241 (calls s rule.tag_id 99 100 at_tag_id_atomic refl refl refl refl refl) (gap s 207 208 at_skipping refl refl) (calls s rule.assignment_operator 75 76 at_assignment_operator_plain refl refl refl refl refl)
+  node_tag_plain_apart = seq 240 241 (calls s rule.tag_id 99 100 at_tag_id_atomic refl refl refl refl refl) (trivia s 207 208 at_skipping refl refl) (calls s rule.assignment_operator 75 76 at_assignment_operator_plain refl refl refl refl refl)
 
   expression_plain : Laid s (Run NonAtomicMode (body_of rule.expression)) 103 104 0
   unfolding whitespace comment
-  expression_plain = seq 242 243 (seq 244 245 (maybe s 103 refl (at_once s) (calls s rule.choice_operator 123 124 at_choice_operator_plain refl refl refl refl refl)) (gap s 207 208 at_skipping refl refl) (calls s rule.term 105 106 at_term_plain refl refl refl refl refl)) (gap s 207 208 at_skipping refl refl) (turns s 243 246 247 248 249 refl (at_once s) refl refl (gap s 207 208 at_skipping refl refl) (seq 250 251 (within s rule.infix_operator refl refl refl (either s 252 248 252 refl (at_once s) (calls s rule.sequence_operator 121 122 at_sequence_operator_plain refl refl refl refl refl) (at_once s) (calls s rule.choice_operator 123 124 at_choice_operator_plain refl refl refl refl refl))) (gap s 207 208 at_skipping refl refl) (calls s rule.term 105 106 at_term_plain refl refl refl refl refl)) refl)
+  expression_plain = seq 242 243 (seq 244 245 (maybe s 103 refl (at_once s) (calls s rule.choice_operator 123 124 at_choice_operator_plain refl refl refl refl refl)) (trivia s 207 208 at_skipping refl refl) (calls s rule.term 105 106 at_term_plain refl refl refl refl refl)) (trivia s 207 208 at_skipping refl refl) (turns s 243 246 247 248 249 refl (at_once s) refl refl (trivia s 207 208 at_skipping refl refl) (seq 250 251 (within s rule.infix_operator refl refl refl (either s 252 248 252 refl (at_once s) (calls s rule.sequence_operator 121 122 at_sequence_operator_plain refl refl refl refl refl) (at_once s) (calls s rule.choice_operator 123 124 at_choice_operator_plain refl refl refl refl refl))) (trivia s 207 208 at_skipping refl refl) (calls s rule.term 105 106 at_term_plain refl refl refl refl refl)) refl)
 
   term_plain : Laid s (Run NonAtomicMode (body_of rule.term)) 105 106 0
   unfolding whitespace comment
-  term_plain = seq 253 254 (seq 255 256 (seq 257 258 (maybe s 105 refl (at_once s) (within s rule.node_tag refl refl refl (tries s 259 261 262 260 refl (calls s rule.tag_id 99 100 at_tag_id_atomic refl refl refl refl refl) (gap s 207 208 at_skipping refl refl) (calls s rule.assignment_operator 75 76 at_assignment_operator_plain refl refl refl refl refl) refl))) (gap s 207 208 at_skipping refl refl) (turns s 258 263 264 265 266 refl (at_once s) refl refl (gap s 207 208 at_skipping refl refl) (within s rule.prefix_operator refl refl refl (either s 267 265 267 refl (at_once s) (calls s rule.positive_predicate_operator 117 118 at_positive_predicate_operator_plain refl refl refl refl refl) (at_once s) (calls s rule.negative_predicate_operator 119 120 at_negative_predicate_operator_plain refl refl refl refl refl))) refl)) (gap s 207 208 at_skipping refl refl) (within s rule.node refl refl refl (either s 268 256 268 refl (at_once s) (tries s 269 271 272 270 refl (seq 273 274 (calls s rule.opening_paren 81 82 at_opening_paren_plain refl refl refl refl refl) (gap s 207 208 at_skipping refl refl) (calls s rule.expression 103 104 at_expression_plain refl refl refl refl refl)) (gap s 207 208 at_skipping refl refl) (calls s rule.closing_paren 83 84 at_closing_paren_plain refl refl refl refl refl) refl) (at_once s) (within s rule.terminal refl refl refl (either s 275 268 275 refl (at_once s) (either s 276 268 276 refl (at_once s) (either s 277 268 277 refl (at_once s) (either s 278 268 278 refl (at_once s) (either s 279 268 279 refl (at_once s) (either s 280 268 280 refl (at_once s) (calls s rule._push_literal 147 148 at_push_literal__plain refl refl refl refl refl) (at_once s) (calls s rule._push 145 146 at_push__plain refl refl refl refl refl)) (at_once s) (calls s rule.peek_slice 149 150 at_peek_slice_plain refl refl refl refl refl)) (at_once s) (calls s rule.identifier 151 152 at_identifier_atomic refl refl refl refl refl)) (at_once s) (calls s rule.string 157 158 at_string_compound refl refl refl refl refl)) (at_once s) (calls s rule.insensitive_string 159 160 at_insensitive_string_plain refl refl refl refl refl)) (at_once s) (calls s rule.range 161 162 at_range_plain refl refl refl refl refl)))))) (gap s 207 208 at_skipping refl refl) (turns s 254 281 282 283 284 refl (at_once s) refl refl (gap s 207 208 at_skipping refl refl) (within s rule.postfix_operator refl refl refl (either s 285 283 285 refl (at_once s) (either s 286 283 286 refl (at_once s) (either s 287 283 287 refl (at_once s) (either s 288 283 288 refl (at_once s) (either s 289 283 289 refl (at_once s) (either s 290 283 290 refl (at_once s) (calls s rule.optional_operator 125 126 at_optional_operator_plain refl refl refl refl refl) (at_once s) (calls s rule.repeat_operator 127 128 at_repeat_operator_plain refl refl refl refl refl)) (at_once s) (calls s rule.repeat_once_operator 129 130 at_repeat_once_operator_plain refl refl refl refl refl)) (at_once s) (calls s rule.repeat_exact 131 132 at_repeat_exact_plain refl refl refl refl refl)) (at_once s) (calls s rule.repeat_min 133 134 at_repeat_min_plain refl refl refl refl refl)) (at_once s) (calls s rule.repeat_max 135 136 at_repeat_max_plain refl refl refl refl refl)) (at_once s) (calls s rule.repeat_min_max 137 138 at_repeat_min_max_plain refl refl refl refl refl))) refl)
+  term_plain = seq 253 254 (seq 255 256 (seq 257 258 (maybe s 105 refl (at_once s) (within s rule.node_tag refl refl refl (tries s 259 261 262 260 refl (calls s rule.tag_id 99 100 at_tag_id_atomic refl refl refl refl refl) (trivia s 207 208 at_skipping refl refl) (calls s rule.assignment_operator 75 76 at_assignment_operator_plain refl refl refl refl refl) refl))) (trivia s 207 208 at_skipping refl refl) (turns s 258 263 264 265 266 refl (at_once s) refl refl (trivia s 207 208 at_skipping refl refl) (within s rule.prefix_operator refl refl refl (either s 267 265 267 refl (at_once s) (calls s rule.positive_predicate_operator 117 118 at_positive_predicate_operator_plain refl refl refl refl refl) (at_once s) (calls s rule.negative_predicate_operator 119 120 at_negative_predicate_operator_plain refl refl refl refl refl))) refl)) (trivia s 207 208 at_skipping refl refl) (within s rule.node refl refl refl (either s 268 256 268 refl (at_once s) (tries s 269 271 272 270 refl (seq 273 274 (calls s rule.opening_paren 81 82 at_opening_paren_plain refl refl refl refl refl) (trivia s 207 208 at_skipping refl refl) (calls s rule.expression 103 104 at_expression_plain refl refl refl refl refl)) (trivia s 207 208 at_skipping refl refl) (calls s rule.closing_paren 83 84 at_closing_paren_plain refl refl refl refl refl) refl) (at_once s) (within s rule.terminal refl refl refl (either s 275 268 275 refl (at_once s) (either s 276 268 276 refl (at_once s) (either s 277 268 277 refl (at_once s) (either s 278 268 278 refl (at_once s) (either s 279 268 279 refl (at_once s) (either s 280 268 280 refl (at_once s) (calls s rule._push_literal 147 148 at_push_literal__plain refl refl refl refl refl) (at_once s) (calls s rule._push 145 146 at_push__plain refl refl refl refl refl)) (at_once s) (calls s rule.peek_slice 149 150 at_peek_slice_plain refl refl refl refl refl)) (at_once s) (calls s rule.identifier 151 152 at_identifier_atomic refl refl refl refl refl)) (at_once s) (calls s rule.string 157 158 at_string_compound refl refl refl refl refl)) (at_once s) (calls s rule.insensitive_string 159 160 at_insensitive_string_plain refl refl refl refl refl)) (at_once s) (calls s rule.range 161 162 at_range_plain refl refl refl refl refl)))))) (trivia s 207 208 at_skipping refl refl) (turns s 254 281 282 283 284 refl (at_once s) refl refl (trivia s 207 208 at_skipping refl refl) (within s rule.postfix_operator refl refl refl (either s 285 283 285 refl (at_once s) (either s 286 283 286 refl (at_once s) (either s 287 283 287 refl (at_once s) (either s 288 283 288 refl (at_once s) (either s 289 283 289 refl (at_once s) (either s 290 283 290 refl (at_once s) (calls s rule.optional_operator 125 126 at_optional_operator_plain refl refl refl refl refl) (at_once s) (calls s rule.repeat_operator 127 128 at_repeat_operator_plain refl refl refl refl refl)) (at_once s) (calls s rule.repeat_once_operator 129 130 at_repeat_once_operator_plain refl refl refl refl refl)) (at_once s) (calls s rule.repeat_exact 131 132 at_repeat_exact_plain refl refl refl refl refl)) (at_once s) (calls s rule.repeat_min 133 134 at_repeat_min_plain refl refl refl refl refl)) (at_once s) (calls s rule.repeat_max 135 136 at_repeat_max_plain refl refl refl refl refl)) (at_once s) (calls s rule.repeat_min_max 137 138 at_repeat_min_max_plain refl refl refl refl refl))) refl)
 
   node_plain_apart : Laid s (Run NonAtomicMode (body_of rule.node)) 107 108 0
   unfolding whitespace comment
-  node_plain_apart = either s 291 107 291 refl (at_once s) (tries s 292 294 295 293 refl (seq 296 297 (calls s rule.opening_paren 81 82 at_opening_paren_plain refl refl refl refl refl) (gap s 207 208 at_skipping refl refl) (calls s rule.expression 103 104 at_expression_plain refl refl refl refl refl)) (gap s 207 208 at_skipping refl refl) (calls s rule.closing_paren 83 84 at_closing_paren_plain refl refl refl refl refl) refl) (at_once s) (within s rule.terminal refl refl refl (either s 298 291 298 refl (at_once s) (either s 299 291 299 refl (at_once s) (either s 300 291 300 refl (at_once s) (either s 301 291 301 refl (at_once s) (either s 302 291 302 refl (at_once s) (either s 303 291 303 refl (at_once s) (calls s rule._push_literal 147 148 at_push_literal__plain refl refl refl refl refl) (at_once s) (calls s rule._push 145 146 at_push__plain refl refl refl refl refl)) (at_once s) (calls s rule.peek_slice 149 150 at_peek_slice_plain refl refl refl refl refl)) (at_once s) (calls s rule.identifier 151 152 at_identifier_atomic refl refl refl refl refl)) (at_once s) (calls s rule.string 157 158 at_string_compound refl refl refl refl refl)) (at_once s) (calls s rule.insensitive_string 159 160 at_insensitive_string_plain refl refl refl refl refl)) (at_once s) (calls s rule.range 161 162 at_range_plain refl refl refl refl refl)))
+  node_plain_apart = either s 291 107 291 refl (at_once s) (tries s 292 294 295 293 refl (seq 296 297 (calls s rule.opening_paren 81 82 at_opening_paren_plain refl refl refl refl refl) (trivia s 207 208 at_skipping refl refl) (calls s rule.expression 103 104 at_expression_plain refl refl refl refl refl)) (trivia s 207 208 at_skipping refl refl) (calls s rule.closing_paren 83 84 at_closing_paren_plain refl refl refl refl refl) refl) (at_once s) (within s rule.terminal refl refl refl (either s 298 291 298 refl (at_once s) (either s 299 291 299 refl (at_once s) (either s 300 291 300 refl (at_once s) (either s 301 291 301 refl (at_once s) (either s 302 291 302 refl (at_once s) (either s 303 291 303 refl (at_once s) (calls s rule._push_literal 147 148 at_push_literal__plain refl refl refl refl refl) (at_once s) (calls s rule._push 145 146 at_push__plain refl refl refl refl refl)) (at_once s) (calls s rule.peek_slice 149 150 at_peek_slice_plain refl refl refl refl refl)) (at_once s) (calls s rule.identifier 151 152 at_identifier_atomic refl refl refl refl refl)) (at_once s) (calls s rule.string 157 158 at_string_compound refl refl refl refl refl)) (at_once s) (calls s rule.insensitive_string 159 160 at_insensitive_string_plain refl refl refl refl refl)) (at_once s) (calls s rule.range 161 162 at_range_plain refl refl refl refl refl)))
 
   terminal_plain_apart : Laid s (Run NonAtomicMode (body_of rule.terminal)) 109 110 0
   unfolding whitespace comment
@@ -854,19 +854,19 @@ module _ (classes : Classes) (code : CodeLists) (is : IsExactCode code) where
 
   repeat_exact_plain : Laid s (Run NonAtomicMode (body_of rule.repeat_exact)) 131 132 0
   unfolding whitespace comment
-  repeat_exact_plain = seq 318 319 (seq 320 321 (calls s rule.opening_brace 77 78 at_opening_brace_plain refl refl refl refl refl) (gap s 207 208 at_skipping refl refl) (calls s rule.number 139 140 at_number_atomic refl refl refl refl refl)) (gap s 207 208 at_skipping refl refl) (calls s rule.closing_brace 79 80 at_closing_brace_plain refl refl refl refl refl)
+  repeat_exact_plain = seq 318 319 (seq 320 321 (calls s rule.opening_brace 77 78 at_opening_brace_plain refl refl refl refl refl) (trivia s 207 208 at_skipping refl refl) (calls s rule.number 139 140 at_number_atomic refl refl refl refl refl)) (trivia s 207 208 at_skipping refl refl) (calls s rule.closing_brace 79 80 at_closing_brace_plain refl refl refl refl refl)
 
   repeat_min_plain : Laid s (Run NonAtomicMode (body_of rule.repeat_min)) 133 134 0
   unfolding whitespace comment
-  repeat_min_plain = seq 322 323 (seq 324 325 (seq 326 327 (calls s rule.opening_brace 77 78 at_opening_brace_plain refl refl refl refl refl) (gap s 207 208 at_skipping refl refl) (calls s rule.number 139 140 at_number_atomic refl refl refl refl refl)) (gap s 207 208 at_skipping refl refl) (calls s rule.comma 143 144 at_comma_plain refl refl refl refl refl)) (gap s 207 208 at_skipping refl refl) (calls s rule.closing_brace 79 80 at_closing_brace_plain refl refl refl refl refl)
+  repeat_min_plain = seq 322 323 (seq 324 325 (seq 326 327 (calls s rule.opening_brace 77 78 at_opening_brace_plain refl refl refl refl refl) (trivia s 207 208 at_skipping refl refl) (calls s rule.number 139 140 at_number_atomic refl refl refl refl refl)) (trivia s 207 208 at_skipping refl refl) (calls s rule.comma 143 144 at_comma_plain refl refl refl refl refl)) (trivia s 207 208 at_skipping refl refl) (calls s rule.closing_brace 79 80 at_closing_brace_plain refl refl refl refl refl)
 
   repeat_max_plain : Laid s (Run NonAtomicMode (body_of rule.repeat_max)) 135 136 0
   unfolding whitespace comment
-  repeat_max_plain = seq 328 329 (seq 330 331 (seq 332 333 (calls s rule.opening_brace 77 78 at_opening_brace_plain refl refl refl refl refl) (gap s 207 208 at_skipping refl refl) (calls s rule.comma 143 144 at_comma_plain refl refl refl refl refl)) (gap s 207 208 at_skipping refl refl) (calls s rule.number 139 140 at_number_atomic refl refl refl refl refl)) (gap s 207 208 at_skipping refl refl) (calls s rule.closing_brace 79 80 at_closing_brace_plain refl refl refl refl refl)
+  repeat_max_plain = seq 328 329 (seq 330 331 (seq 332 333 (calls s rule.opening_brace 77 78 at_opening_brace_plain refl refl refl refl refl) (trivia s 207 208 at_skipping refl refl) (calls s rule.comma 143 144 at_comma_plain refl refl refl refl refl)) (trivia s 207 208 at_skipping refl refl) (calls s rule.number 139 140 at_number_atomic refl refl refl refl refl)) (trivia s 207 208 at_skipping refl refl) (calls s rule.closing_brace 79 80 at_closing_brace_plain refl refl refl refl refl)
 
   repeat_min_max_plain : Laid s (Run NonAtomicMode (body_of rule.repeat_min_max)) 137 138 0
   unfolding whitespace comment
-  repeat_min_max_plain = seq 334 335 (seq 336 337 (seq 338 339 (seq 340 341 (calls s rule.opening_brace 77 78 at_opening_brace_plain refl refl refl refl refl) (gap s 207 208 at_skipping refl refl) (calls s rule.number 139 140 at_number_atomic refl refl refl refl refl)) (gap s 207 208 at_skipping refl refl) (calls s rule.comma 143 144 at_comma_plain refl refl refl refl refl)) (gap s 207 208 at_skipping refl refl) (calls s rule.number 139 140 at_number_atomic refl refl refl refl refl)) (gap s 207 208 at_skipping refl refl) (calls s rule.closing_brace 79 80 at_closing_brace_plain refl refl refl refl refl)
+  repeat_min_max_plain = seq 334 335 (seq 336 337 (seq 338 339 (seq 340 341 (calls s rule.opening_brace 77 78 at_opening_brace_plain refl refl refl refl refl) (trivia s 207 208 at_skipping refl refl) (calls s rule.number 139 140 at_number_atomic refl refl refl refl refl)) (trivia s 207 208 at_skipping refl refl) (calls s rule.comma 143 144 at_comma_plain refl refl refl refl refl)) (trivia s 207 208 at_skipping refl refl) (calls s rule.number 139 140 at_number_atomic refl refl refl refl refl)) (trivia s 207 208 at_skipping refl refl) (calls s rule.closing_brace 79 80 at_closing_brace_plain refl refl refl refl refl)
 
   number_atomic : Laid s (Run AtomicMode (body_of rule.number)) 139 140 0
   unfolding whitespace comment
@@ -882,15 +882,15 @@ module _ (classes : Classes) (code : CodeLists) (is : IsExactCode code) where
 
   push__plain : Laid s (Run NonAtomicMode (body_of rule._push)) 145 146 0
   unfolding whitespace comment
-  push__plain = seq 349 350 (seq 351 352 (seq 353 354 (word s 20 refl refl refl) (gap s 207 208 at_skipping refl refl) (calls s rule.opening_paren 81 82 at_opening_paren_plain refl refl refl refl refl)) (gap s 207 208 at_skipping refl refl) (calls s rule.expression 103 104 at_expression_plain refl refl refl refl refl)) (gap s 207 208 at_skipping refl refl) (calls s rule.closing_paren 83 84 at_closing_paren_plain refl refl refl refl refl)
+  push__plain = seq 349 350 (seq 351 352 (seq 353 354 (word s 20 refl refl refl) (trivia s 207 208 at_skipping refl refl) (calls s rule.opening_paren 81 82 at_opening_paren_plain refl refl refl refl refl)) (trivia s 207 208 at_skipping refl refl) (calls s rule.expression 103 104 at_expression_plain refl refl refl refl refl)) (trivia s 207 208 at_skipping refl refl) (calls s rule.closing_paren 83 84 at_closing_paren_plain refl refl refl refl refl)
 
   push_literal__plain : Laid s (Run NonAtomicMode (body_of rule._push_literal)) 147 148 0
   unfolding whitespace comment
-  push_literal__plain = seq 355 356 (seq 357 358 (seq 359 360 (word s 21 refl refl refl) (gap s 207 208 at_skipping refl refl) (calls s rule.opening_paren 81 82 at_opening_paren_plain refl refl refl refl refl)) (gap s 207 208 at_skipping refl refl) (calls s rule.string 157 158 at_string_compound refl refl refl refl refl)) (gap s 207 208 at_skipping refl refl) (calls s rule.closing_paren 83 84 at_closing_paren_plain refl refl refl refl refl)
+  push_literal__plain = seq 355 356 (seq 357 358 (seq 359 360 (word s 21 refl refl refl) (trivia s 207 208 at_skipping refl refl) (calls s rule.opening_paren 81 82 at_opening_paren_plain refl refl refl refl refl)) (trivia s 207 208 at_skipping refl refl) (calls s rule.string 157 158 at_string_compound refl refl refl refl refl)) (trivia s 207 208 at_skipping refl refl) (calls s rule.closing_paren 83 84 at_closing_paren_plain refl refl refl refl refl)
 
   peek_slice_plain : Laid s (Run NonAtomicMode (body_of rule.peek_slice)) 149 150 0
   unfolding whitespace comment
-  peek_slice_plain = seq 361 362 (seq 363 364 (seq 365 366 (seq 367 368 (seq 369 370 (word s 22 refl refl refl) (gap s 207 208 at_skipping refl refl) (calls s rule.opening_brack 85 86 at_opening_brack_plain refl refl refl refl refl)) (gap s 207 208 at_skipping refl refl) (maybe s 368 refl (at_once s) (calls s rule.integer 141 142 at_integer_atomic refl refl refl refl refl))) (gap s 207 208 at_skipping refl refl) (calls s rule.range_operator 181 182 at_range_operator_plain refl refl refl refl refl)) (gap s 207 208 at_skipping refl refl) (maybe s 364 refl (at_once s) (calls s rule.integer 141 142 at_integer_atomic refl refl refl refl refl))) (gap s 207 208 at_skipping refl refl) (calls s rule.closing_brack 87 88 at_closing_brack_plain refl refl refl refl refl)
+  peek_slice_plain = seq 361 362 (seq 363 364 (seq 365 366 (seq 367 368 (seq 369 370 (word s 22 refl refl refl) (trivia s 207 208 at_skipping refl refl) (calls s rule.opening_brack 85 86 at_opening_brack_plain refl refl refl refl refl)) (trivia s 207 208 at_skipping refl refl) (maybe s 368 refl (at_once s) (calls s rule.integer 141 142 at_integer_atomic refl refl refl refl refl))) (trivia s 207 208 at_skipping refl refl) (calls s rule.range_operator 181 182 at_range_operator_plain refl refl refl refl refl)) (trivia s 207 208 at_skipping refl refl) (maybe s 364 refl (at_once s) (calls s rule.integer 141 142 at_integer_atomic refl refl refl refl refl))) (trivia s 207 208 at_skipping refl refl) (calls s rule.closing_brack 87 88 at_closing_brack_plain refl refl refl refl refl)
 
   identifier_atomic : Laid s (Run AtomicMode (body_of rule.identifier)) 151 152 0
   unfolding whitespace comment
@@ -910,11 +910,11 @@ module _ (classes : Classes) (code : CodeLists) (is : IsExactCode code) where
 
   insensitive_string_plain : Laid s (Run NonAtomicMode (body_of rule.insensitive_string)) 159 160 0
   unfolding whitespace comment
-  insensitive_string_plain = seq 379 380 (word s 23 refl refl refl) (gap s 207 208 at_skipping refl refl) (calls s rule.string 157 158 at_string_compound refl refl refl refl refl)
+  insensitive_string_plain = seq 379 380 (word s 23 refl refl refl) (trivia s 207 208 at_skipping refl refl) (calls s rule.string 157 158 at_string_compound refl refl refl refl refl)
 
   range_plain : Laid s (Run NonAtomicMode (body_of rule.range)) 161 162 0
   unfolding whitespace comment
-  range_plain = seq 381 382 (seq 383 384 (calls s rule.character 163 164 at_character_compound refl refl refl refl refl) (gap s 207 208 at_skipping refl refl) (calls s rule.range_operator 181 182 at_range_operator_plain refl refl refl refl refl)) (gap s 207 208 at_skipping refl refl) (calls s rule.character 163 164 at_character_compound refl refl refl refl refl)
+  range_plain = seq 381 382 (seq 383 384 (calls s rule.character 163 164 at_character_compound refl refl refl refl refl) (trivia s 207 208 at_skipping refl refl) (calls s rule.range_operator 181 182 at_range_operator_plain refl refl refl refl refl)) (trivia s 207 208 at_skipping refl refl) (calls s rule.character 163 164 at_character_compound refl refl refl refl refl)
 
   character_compound : Laid s (Run CompoundAtomicMode (body_of rule.character)) 163 164 0
   unfolding whitespace comment
@@ -966,11 +966,11 @@ module _ (classes : Classes) (code : CodeLists) (is : IsExactCode code) where
 
   line_comment_plain_apart : Laid s (Run NonAtomicMode (body_of rule.line_comment)) 187 188 0
   unfolding whitespace comment
-  line_comment_plain_apart = seq 418 419 (seq 420 421 (word s 32 refl refl refl) (gap s 207 208 at_skipping refl refl) (never s 422 423 refl (one_of s 14 (one_of_two s.classes (one_text s.classes 47) (one_text s.classes 33)) refl refl refl) refl)) (gap s 207 208 at_skipping refl refl) (turns s 419 424 425 426 427 refl (at_once s) refl refl (gap s 207 208 at_skipping refl refl) (seq 428 429 (never s 430 431 refl (within s rule.newline refl refl refl (either s 432 430 432 refl (at_once s) (word s 30 refl refl refl) (at_once s) (word s 31 refl refl refl))) refl) (gap s 207 208 at_skipping refl refl) (one_of s 15 (one_any s.classes tt) refl refl refl)) refl)
+  line_comment_plain_apart = seq 418 419 (seq 420 421 (word s 32 refl refl refl) (trivia s 207 208 at_skipping refl refl) (never s 422 423 refl (one_of s 14 (one_of_two s.classes (one_text s.classes 47) (one_text s.classes 33)) refl refl refl) refl)) (trivia s 207 208 at_skipping refl refl) (turns s 419 424 425 426 427 refl (at_once s) refl refl (trivia s 207 208 at_skipping refl refl) (seq 428 429 (never s 430 431 refl (within s rule.newline refl refl refl (either s 432 430 432 refl (at_once s) (word s 30 refl refl refl) (at_once s) (word s 31 refl refl refl))) refl) (trivia s 207 208 at_skipping refl refl) (one_of s 15 (one_any s.classes tt) refl refl refl)) refl)
 
   block_comment_plain_apart : Laid s (Run NonAtomicMode (body_of rule.block_comment)) 189 190 0
   unfolding whitespace comment
-  block_comment_plain_apart = seq 433 434 (seq 435 436 (word s 33 refl refl refl) (gap s 207 208 at_skipping refl refl) (turns s 436 437 438 439 440 refl (at_once s) refl refl (gap s 207 208 at_skipping refl refl) (either s 441 439 441 refl (at_once s) (enters s rule.block_comment 189 190 at_block_comment_plain_apart refl refl refl refl refl) (at_once s) (seq 442 443 (never s 444 445 refl (word s 34 refl refl refl) refl) (gap s 207 208 at_skipping refl refl) (one_of s 15 (one_any s.classes tt) refl refl refl))) refl)) (gap s 207 208 at_skipping refl refl) (word s 34 refl refl refl)
+  block_comment_plain_apart = seq 433 434 (seq 435 436 (word s 33 refl refl refl) (trivia s 207 208 at_skipping refl refl) (turns s 436 437 438 439 440 refl (at_once s) refl refl (trivia s 207 208 at_skipping refl refl) (either s 441 439 441 refl (at_once s) (enters s rule.block_comment 189 190 at_block_comment_plain_apart refl refl refl refl refl) (at_once s) (seq 442 443 (never s 444 445 refl (word s 34 refl refl refl) refl) (trivia s 207 208 at_skipping refl refl) (one_of s 15 (one_any s.classes tt) refl refl refl))) refl)) (trivia s 207 208 at_skipping refl refl) (word s 34 refl refl refl)
 
   COMMENT_atomic_apart : Laid s (Run AtomicMode (body_of rule.COMMENT)) 191 192 0
   unfolding whitespace comment

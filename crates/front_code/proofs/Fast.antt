@@ -16,7 +16,7 @@ use Rattle.front_code.specs.Numbers.{number_of}
 use Rattle.front_code.proofs.Characters.{one_any, one_called, one_of_two, one_other, one_range, one_text}
 use Rattle.front_code.proofs.Flattening.{whole_code}
 use Rattle.front_code.proofs.Outside.{outside_call, outside_choice, outside_not, outside_seq, outside_set, outside_silent, outside_some, outside_sub, outside_text, takes_other}
-use Rattle.front_code.proofs.Shapes.{Laid, Setting, all_of, at_once, at_point, atomic, behind_all, between, calls, comments, compound, either, end, enters, gap_in_place, has_op, many, maybe, never, noted, one_of, start, tested, tight_atomic, tight_between, tries, turns, within, word}
+use Rattle.front_code.proofs.Shapes.{Laid, Setting, all_of, at_once, at_point, atomic, behind_all, between, calls, comments, compound, either, end, enters, trivia_in_place, has_op, many, maybe, never, noted, one_of, start, tested, tight_atomic, tight_between, tries, turns, within, word}
 
 -- the calls of the rules from outside, and the bodies that are called
 pub called : List Point
@@ -729,11 +729,11 @@ module _ (classes : Classes) (code : CodeLists) (is : IsFastCode code) where
 
   grammar_rules_plain_apart : Laid s (Run NonAtomicMode (body_of rule.grammar_rules)) 71 72 0
   unfolding whitespace comment
-  grammar_rules_plain_apart = seq 201 202 (seq 203 204 (seq 205 206 (start s tt refl) (gap_in_place s (seq 207 207 (many s 208 (op.IsOne 0 208 207) refl (λ c z. z) (tight_between s) refl (inl (tested s 0 (outside_sub s.classes ((32, 32) ∷ (9, 9) ∷ (10, 10) ∷ (13, 13) ∷ []) rule.WHITESPACE refl refl refl (outside_choice s.classes ((32, 32) ∷ (9, 9) ∷ []) ((10, 10) ∷ (13, 13) ∷ []) false false (outside_set s.classes (one_of_two s.classes (one_text s.classes 32) (one_text s.classes 9))) (outside_sub s.classes ((10, 10) ∷ (13, 13) ∷ []) rule.newline refl refl refl (outside_choice s.classes ((10, 10) ∷ []) ((13, 13) ∷ []) false false (outside_set s.classes (one_text s.classes 10)) (outside_text s.classes))))) refl refl refl)) (within s rule.WHITESPACE refl refl refl (either s 209 208 210 refl (at_once s) (one_of s 1 (one_of_two s.classes (one_text s.classes 32) (one_text s.classes 9)) refl refl refl) (tested s 2 (outside_sub s.classes ((10, 10) ∷ (13, 13) ∷ []) rule.newline refl refl refl (outside_choice s.classes ((10, 10) ∷ []) ((13, 13) ∷ []) false false (outside_set s.classes (one_text s.classes 10)) (outside_text s.classes))) refl refl refl) (within s rule.newline refl refl refl (either s 211 210 211 refl (at_once s) (word s 30 refl refl refl) (at_once s) (word s 31 refl refl refl)))))) (between s) (many s 212 (op.IsOne 3 212 206) refl (λ c z. z) (tight_between s) refl (inl (tested s 3 (outside_seq s.classes ((47, 47) ∷ (47, 47) ∷ []) false (outside_sub s.classes ((47, 47) ∷ (47, 47) ∷ []) rule.COMMENT refl refl refl (outside_choice s.classes ((47, 47) ∷ []) ((47, 47) ∷ []) false false (outside_sub s.classes ((47, 47) ∷ []) rule.block_comment refl refl refl (outside_seq s.classes ((47, 47) ∷ []) false (outside_seq s.classes ((47, 47) ∷ []) false (outside_text s.classes)))) (outside_sub s.classes ((47, 47) ∷ []) rule.line_comment refl refl refl (outside_seq s.classes ((47, 47) ∷ []) false (outside_seq s.classes ((47, 47) ∷ []) false (outside_text s.classes))))))) refl refl refl)) (tries s 213 215 215 214 refl (enters s rule.COMMENT 191 192 at_COMMENT_atomic_apart refl refl refl refl refl) (between s) (many s 216 (op.IsOne 0 216 214) refl (λ c z. z) (tight_between s) refl (inl (tested s 0 (outside_sub s.classes ((32, 32) ∷ (9, 9) ∷ (10, 10) ∷ (13, 13) ∷ []) rule.WHITESPACE refl refl refl (outside_choice s.classes ((32, 32) ∷ (9, 9) ∷ []) ((10, 10) ∷ (13, 13) ∷ []) false false (outside_set s.classes (one_of_two s.classes (one_text s.classes 32) (one_text s.classes 9))) (outside_sub s.classes ((10, 10) ∷ (13, 13) ∷ []) rule.newline refl refl refl (outside_choice s.classes ((10, 10) ∷ []) ((13, 13) ∷ []) false false (outside_set s.classes (one_text s.classes 10)) (outside_text s.classes))))) refl refl refl)) (within s rule.WHITESPACE refl refl refl (either s 217 216 218 refl (at_once s) (one_of s 1 (one_of_two s.classes (one_text s.classes 32) (one_text s.classes 9)) refl refl refl) (tested s 2 (outside_sub s.classes ((10, 10) ∷ (13, 13) ∷ []) rule.newline refl refl refl (outside_choice s.classes ((10, 10) ∷ []) ((13, 13) ∷ []) false false (outside_set s.classes (one_text s.classes 10)) (outside_text s.classes))) refl refl refl) (within s rule.newline refl refl refl (either s 219 218 219 refl (at_once s) (word s 30 refl refl refl) (at_once s) (word s 31 refl refl refl)))))) refl)))) (turns s 220 222 223 224 225 refl (noted s 4 221 refl (outside_call s.classes ((47, 47) ∷ []) false rule.grammar_doc refl refl refl (outside_seq s.classes ((47, 47) ∷ []) false (outside_seq s.classes ((47, 47) ∷ []) false (outside_text s.classes)))) refl refl refl refl) refl refl (gap_in_place s (seq 226 226 (many s 227 (op.IsOne 0 227 226) refl (λ c z. z) (tight_between s) refl (inl (tested s 0 (outside_sub s.classes ((32, 32) ∷ (9, 9) ∷ (10, 10) ∷ (13, 13) ∷ []) rule.WHITESPACE refl refl refl (outside_choice s.classes ((32, 32) ∷ (9, 9) ∷ []) ((10, 10) ∷ (13, 13) ∷ []) false false (outside_set s.classes (one_of_two s.classes (one_text s.classes 32) (one_text s.classes 9))) (outside_sub s.classes ((10, 10) ∷ (13, 13) ∷ []) rule.newline refl refl refl (outside_choice s.classes ((10, 10) ∷ []) ((13, 13) ∷ []) false false (outside_set s.classes (one_text s.classes 10)) (outside_text s.classes))))) refl refl refl)) (within s rule.WHITESPACE refl refl refl (either s 228 227 229 refl (at_once s) (one_of s 1 (one_of_two s.classes (one_text s.classes 32) (one_text s.classes 9)) refl refl refl) (tested s 2 (outside_sub s.classes ((10, 10) ∷ (13, 13) ∷ []) rule.newline refl refl refl (outside_choice s.classes ((10, 10) ∷ []) ((13, 13) ∷ []) false false (outside_set s.classes (one_text s.classes 10)) (outside_text s.classes))) refl refl refl) (within s rule.newline refl refl refl (either s 230 229 230 refl (at_once s) (word s 30 refl refl refl) (at_once s) (word s 31 refl refl refl)))))) (between s) (many s 231 (op.IsOne 3 231 224) refl (λ c z. z) (tight_between s) refl (inl (tested s 3 (outside_seq s.classes ((47, 47) ∷ (47, 47) ∷ []) false (outside_sub s.classes ((47, 47) ∷ (47, 47) ∷ []) rule.COMMENT refl refl refl (outside_choice s.classes ((47, 47) ∷ []) ((47, 47) ∷ []) false false (outside_sub s.classes ((47, 47) ∷ []) rule.block_comment refl refl refl (outside_seq s.classes ((47, 47) ∷ []) false (outside_seq s.classes ((47, 47) ∷ []) false (outside_text s.classes)))) (outside_sub s.classes ((47, 47) ∷ []) rule.line_comment refl refl refl (outside_seq s.classes ((47, 47) ∷ []) false (outside_seq s.classes ((47, 47) ∷ []) false (outside_text s.classes))))))) refl refl refl)) (tries s 232 234 234 233 refl (enters s rule.COMMENT 191 192 at_COMMENT_atomic_apart refl refl refl refl refl) (between s) (many s 235 (op.IsOne 0 235 233) refl (λ c z. z) (tight_between s) refl (inl (tested s 0 (outside_sub s.classes ((32, 32) ∷ (9, 9) ∷ (10, 10) ∷ (13, 13) ∷ []) rule.WHITESPACE refl refl refl (outside_choice s.classes ((32, 32) ∷ (9, 9) ∷ []) ((10, 10) ∷ (13, 13) ∷ []) false false (outside_set s.classes (one_of_two s.classes (one_text s.classes 32) (one_text s.classes 9))) (outside_sub s.classes ((10, 10) ∷ (13, 13) ∷ []) rule.newline refl refl refl (outside_choice s.classes ((10, 10) ∷ []) ((13, 13) ∷ []) false false (outside_set s.classes (one_text s.classes 10)) (outside_text s.classes))))) refl refl refl)) (within s rule.WHITESPACE refl refl refl (either s 236 235 237 refl (at_once s) (one_of s 1 (one_of_two s.classes (one_text s.classes 32) (one_text s.classes 9)) refl refl refl) (tested s 2 (outside_sub s.classes ((10, 10) ∷ (13, 13) ∷ []) rule.newline refl refl refl (outside_choice s.classes ((10, 10) ∷ []) ((13, 13) ∷ []) false false (outside_set s.classes (one_text s.classes 10)) (outside_text s.classes))) refl refl refl) (within s rule.newline refl refl refl (either s 238 237 238 refl (at_once s) (word s 30 refl refl refl) (at_once s) (word s 31 refl refl refl)))))) refl)))) (calls s rule.grammar_doc 195 196 at_grammar_doc_compound refl refl refl refl refl) refl)) (gap_in_place s (seq 239 239 (many s 240 (op.IsOne 0 240 239) refl (λ c z. z) (tight_between s) refl (inl (tested s 0 (outside_sub s.classes ((32, 32) ∷ (9, 9) ∷ (10, 10) ∷ (13, 13) ∷ []) rule.WHITESPACE refl refl refl (outside_choice s.classes ((32, 32) ∷ (9, 9) ∷ []) ((10, 10) ∷ (13, 13) ∷ []) false false (outside_set s.classes (one_of_two s.classes (one_text s.classes 32) (one_text s.classes 9))) (outside_sub s.classes ((10, 10) ∷ (13, 13) ∷ []) rule.newline refl refl refl (outside_choice s.classes ((10, 10) ∷ []) ((13, 13) ∷ []) false false (outside_set s.classes (one_text s.classes 10)) (outside_text s.classes))))) refl refl refl)) (within s rule.WHITESPACE refl refl refl (either s 241 240 242 refl (at_once s) (one_of s 1 (one_of_two s.classes (one_text s.classes 32) (one_text s.classes 9)) refl refl refl) (tested s 2 (outside_sub s.classes ((10, 10) ∷ (13, 13) ∷ []) rule.newline refl refl refl (outside_choice s.classes ((10, 10) ∷ []) ((13, 13) ∷ []) false false (outside_set s.classes (one_text s.classes 10)) (outside_text s.classes))) refl refl refl) (within s rule.newline refl refl refl (either s 243 242 243 refl (at_once s) (word s 30 refl refl refl) (at_once s) (word s 31 refl refl refl)))))) (between s) (many s 244 (op.IsOne 3 244 204) refl (λ c z. z) (tight_between s) refl (inl (tested s 3 (outside_seq s.classes ((47, 47) ∷ (47, 47) ∷ []) false (outside_sub s.classes ((47, 47) ∷ (47, 47) ∷ []) rule.COMMENT refl refl refl (outside_choice s.classes ((47, 47) ∷ []) ((47, 47) ∷ []) false false (outside_sub s.classes ((47, 47) ∷ []) rule.block_comment refl refl refl (outside_seq s.classes ((47, 47) ∷ []) false (outside_seq s.classes ((47, 47) ∷ []) false (outside_text s.classes)))) (outside_sub s.classes ((47, 47) ∷ []) rule.line_comment refl refl refl (outside_seq s.classes ((47, 47) ∷ []) false (outside_seq s.classes ((47, 47) ∷ []) false (outside_text s.classes))))))) refl refl refl)) (tries s 245 247 247 246 refl (enters s rule.COMMENT 191 192 at_COMMENT_atomic_apart refl refl refl refl refl) (between s) (many s 248 (op.IsOne 0 248 246) refl (λ c z. z) (tight_between s) refl (inl (tested s 0 (outside_sub s.classes ((32, 32) ∷ (9, 9) ∷ (10, 10) ∷ (13, 13) ∷ []) rule.WHITESPACE refl refl refl (outside_choice s.classes ((32, 32) ∷ (9, 9) ∷ []) ((10, 10) ∷ (13, 13) ∷ []) false false (outside_set s.classes (one_of_two s.classes (one_text s.classes 32) (one_text s.classes 9))) (outside_sub s.classes ((10, 10) ∷ (13, 13) ∷ []) rule.newline refl refl refl (outside_choice s.classes ((10, 10) ∷ []) ((13, 13) ∷ []) false false (outside_set s.classes (one_text s.classes 10)) (outside_text s.classes))))) refl refl refl)) (within s rule.WHITESPACE refl refl refl (either s 249 248 250 refl (at_once s) (one_of s 1 (one_of_two s.classes (one_text s.classes 32) (one_text s.classes 9)) refl refl refl) (tested s 2 (outside_sub s.classes ((10, 10) ∷ (13, 13) ∷ []) rule.newline refl refl refl (outside_choice s.classes ((10, 10) ∷ []) ((13, 13) ∷ []) false false (outside_set s.classes (one_text s.classes 10)) (outside_text s.classes))) refl refl refl) (within s rule.newline refl refl refl (either s 251 250 251 refl (at_once s) (word s 30 refl refl refl) (at_once s) (word s 31 refl refl refl)))))) refl)))) (turns s 252 254 255 256 257 refl (noted s 5 253 refl (outside_call s.classes ((95, 95) ∷ (97, 122) ∷ (65, 90) ∷ (47, 47) ∷ []) true rule.grammar_rule refl refl refl (outside_choice s.classes ((95, 95) ∷ (97, 122) ∷ (65, 90) ∷ []) ((47, 47) ∷ []) true true (outside_seq s.classes ((95, 95) ∷ (97, 122) ∷ (65, 90) ∷ []) true (outside_seq s.classes ((95, 95) ∷ (97, 122) ∷ (65, 90) ∷ []) true (outside_seq s.classes ((95, 95) ∷ (97, 122) ∷ (65, 90) ∷ []) true (outside_seq s.classes ((95, 95) ∷ (97, 122) ∷ (65, 90) ∷ []) true (outside_seq s.classes ((95, 95) ∷ (97, 122) ∷ (65, 90) ∷ []) true (outside_call s.classes ((95, 95) ∷ (97, 122) ∷ (65, 90) ∷ []) false rule.identifier refl refl refl (outside_seq s.classes ((95, 95) ∷ (97, 122) ∷ (65, 90) ∷ []) false (outside_not s.classes ((95, 95) ∷ (97, 122) ∷ (65, 90) ∷ []) (tight_atomic s) (outside_set s.classes (one_of_two s.classes (one_text s.classes 95) (one_called s.classes rule.alpha refl refl refl (one_of_two s.classes (one_range s.classes 97 122) (one_range s.classes 65 90))))))))))))) (outside_call s.classes ((47, 47) ∷ []) false rule.line_doc refl refl refl (outside_seq s.classes ((47, 47) ∷ []) false (outside_seq s.classes ((47, 47) ∷ []) false (outside_text s.classes)))))) refl refl refl refl) refl refl (gap_in_place s (seq 258 258 (many s 259 (op.IsOne 0 259 258) refl (λ c z. z) (tight_between s) refl (inl (tested s 0 (outside_sub s.classes ((32, 32) ∷ (9, 9) ∷ (10, 10) ∷ (13, 13) ∷ []) rule.WHITESPACE refl refl refl (outside_choice s.classes ((32, 32) ∷ (9, 9) ∷ []) ((10, 10) ∷ (13, 13) ∷ []) false false (outside_set s.classes (one_of_two s.classes (one_text s.classes 32) (one_text s.classes 9))) (outside_sub s.classes ((10, 10) ∷ (13, 13) ∷ []) rule.newline refl refl refl (outside_choice s.classes ((10, 10) ∷ []) ((13, 13) ∷ []) false false (outside_set s.classes (one_text s.classes 10)) (outside_text s.classes))))) refl refl refl)) (within s rule.WHITESPACE refl refl refl (either s 260 259 261 refl (at_once s) (one_of s 1 (one_of_two s.classes (one_text s.classes 32) (one_text s.classes 9)) refl refl refl) (tested s 2 (outside_sub s.classes ((10, 10) ∷ (13, 13) ∷ []) rule.newline refl refl refl (outside_choice s.classes ((10, 10) ∷ []) ((13, 13) ∷ []) false false (outside_set s.classes (one_text s.classes 10)) (outside_text s.classes))) refl refl refl) (within s rule.newline refl refl refl (either s 262 261 262 refl (at_once s) (word s 30 refl refl refl) (at_once s) (word s 31 refl refl refl)))))) (between s) (many s 263 (op.IsOne 3 263 256) refl (λ c z. z) (tight_between s) refl (inl (tested s 3 (outside_seq s.classes ((47, 47) ∷ (47, 47) ∷ []) false (outside_sub s.classes ((47, 47) ∷ (47, 47) ∷ []) rule.COMMENT refl refl refl (outside_choice s.classes ((47, 47) ∷ []) ((47, 47) ∷ []) false false (outside_sub s.classes ((47, 47) ∷ []) rule.block_comment refl refl refl (outside_seq s.classes ((47, 47) ∷ []) false (outside_seq s.classes ((47, 47) ∷ []) false (outside_text s.classes)))) (outside_sub s.classes ((47, 47) ∷ []) rule.line_comment refl refl refl (outside_seq s.classes ((47, 47) ∷ []) false (outside_seq s.classes ((47, 47) ∷ []) false (outside_text s.classes))))))) refl refl refl)) (tries s 264 266 266 265 refl (enters s rule.COMMENT 191 192 at_COMMENT_atomic_apart refl refl refl refl refl) (between s) (many s 267 (op.IsOne 0 267 265) refl (λ c z. z) (tight_between s) refl (inl (tested s 0 (outside_sub s.classes ((32, 32) ∷ (9, 9) ∷ (10, 10) ∷ (13, 13) ∷ []) rule.WHITESPACE refl refl refl (outside_choice s.classes ((32, 32) ∷ (9, 9) ∷ []) ((10, 10) ∷ (13, 13) ∷ []) false false (outside_set s.classes (one_of_two s.classes (one_text s.classes 32) (one_text s.classes 9))) (outside_sub s.classes ((10, 10) ∷ (13, 13) ∷ []) rule.newline refl refl refl (outside_choice s.classes ((10, 10) ∷ []) ((13, 13) ∷ []) false false (outside_set s.classes (one_text s.classes 10)) (outside_text s.classes))))) refl refl refl)) (within s rule.WHITESPACE refl refl refl (either s 268 267 269 refl (at_once s) (one_of s 1 (one_of_two s.classes (one_text s.classes 32) (one_text s.classes 9)) refl refl refl) (tested s 2 (outside_sub s.classes ((10, 10) ∷ (13, 13) ∷ []) rule.newline refl refl refl (outside_choice s.classes ((10, 10) ∷ []) ((13, 13) ∷ []) false false (outside_set s.classes (one_text s.classes 10)) (outside_text s.classes))) refl refl refl) (within s rule.newline refl refl refl (either s 270 269 270 refl (at_once s) (word s 30 refl refl refl) (at_once s) (word s 31 refl refl refl)))))) refl)))) (calls s rule.grammar_rule 73 74 at_grammar_rule_plain refl refl refl refl refl) refl)) (gap_in_place s (seq 271 271 (many s 272 (op.IsOne 0 272 271) refl (λ c z. z) (tight_between s) refl (inl (tested s 0 (outside_sub s.classes ((32, 32) ∷ (9, 9) ∷ (10, 10) ∷ (13, 13) ∷ []) rule.WHITESPACE refl refl refl (outside_choice s.classes ((32, 32) ∷ (9, 9) ∷ []) ((10, 10) ∷ (13, 13) ∷ []) false false (outside_set s.classes (one_of_two s.classes (one_text s.classes 32) (one_text s.classes 9))) (outside_sub s.classes ((10, 10) ∷ (13, 13) ∷ []) rule.newline refl refl refl (outside_choice s.classes ((10, 10) ∷ []) ((13, 13) ∷ []) false false (outside_set s.classes (one_text s.classes 10)) (outside_text s.classes))))) refl refl refl)) (within s rule.WHITESPACE refl refl refl (either s 273 272 274 refl (at_once s) (one_of s 1 (one_of_two s.classes (one_text s.classes 32) (one_text s.classes 9)) refl refl refl) (tested s 2 (outside_sub s.classes ((10, 10) ∷ (13, 13) ∷ []) rule.newline refl refl refl (outside_choice s.classes ((10, 10) ∷ []) ((13, 13) ∷ []) false false (outside_set s.classes (one_text s.classes 10)) (outside_text s.classes))) refl refl refl) (within s rule.newline refl refl refl (either s 275 274 275 refl (at_once s) (word s 30 refl refl refl) (at_once s) (word s 31 refl refl refl)))))) (between s) (many s 276 (op.IsOne 3 276 202) refl (λ c z. z) (tight_between s) refl (inl (tested s 3 (outside_seq s.classes ((47, 47) ∷ (47, 47) ∷ []) false (outside_sub s.classes ((47, 47) ∷ (47, 47) ∷ []) rule.COMMENT refl refl refl (outside_choice s.classes ((47, 47) ∷ []) ((47, 47) ∷ []) false false (outside_sub s.classes ((47, 47) ∷ []) rule.block_comment refl refl refl (outside_seq s.classes ((47, 47) ∷ []) false (outside_seq s.classes ((47, 47) ∷ []) false (outside_text s.classes)))) (outside_sub s.classes ((47, 47) ∷ []) rule.line_comment refl refl refl (outside_seq s.classes ((47, 47) ∷ []) false (outside_seq s.classes ((47, 47) ∷ []) false (outside_text s.classes))))))) refl refl refl)) (tries s 277 279 279 278 refl (enters s rule.COMMENT 191 192 at_COMMENT_atomic_apart refl refl refl refl refl) (between s) (many s 280 (op.IsOne 0 280 278) refl (λ c z. z) (tight_between s) refl (inl (tested s 0 (outside_sub s.classes ((32, 32) ∷ (9, 9) ∷ (10, 10) ∷ (13, 13) ∷ []) rule.WHITESPACE refl refl refl (outside_choice s.classes ((32, 32) ∷ (9, 9) ∷ []) ((10, 10) ∷ (13, 13) ∷ []) false false (outside_set s.classes (one_of_two s.classes (one_text s.classes 32) (one_text s.classes 9))) (outside_sub s.classes ((10, 10) ∷ (13, 13) ∷ []) rule.newline refl refl refl (outside_choice s.classes ((10, 10) ∷ []) ((13, 13) ∷ []) false false (outside_set s.classes (one_text s.classes 10)) (outside_text s.classes))))) refl refl refl)) (within s rule.WHITESPACE refl refl refl (either s 281 280 282 refl (at_once s) (one_of s 1 (one_of_two s.classes (one_text s.classes 32) (one_text s.classes 9)) refl refl refl) (tested s 2 (outside_sub s.classes ((10, 10) ∷ (13, 13) ∷ []) rule.newline refl refl refl (outside_choice s.classes ((10, 10) ∷ []) ((13, 13) ∷ []) false false (outside_set s.classes (one_text s.classes 10)) (outside_text s.classes))) refl refl refl) (within s rule.newline refl refl refl (either s 283 282 283 refl (at_once s) (word s 30 refl refl refl) (at_once s) (word s 31 refl refl refl)))))) refl)))) (end s 284 285 tt refl refl refl refl)
+  grammar_rules_plain_apart = seq 201 202 (seq 203 204 (seq 205 206 (start s tt refl) (trivia_in_place s (seq 207 207 (many s 208 (op.IsOne 0 208 207) refl (λ c z. z) (tight_between s) refl (inl (tested s 0 (outside_sub s.classes ((32, 32) ∷ (9, 9) ∷ (10, 10) ∷ (13, 13) ∷ []) rule.WHITESPACE refl refl refl (outside_choice s.classes ((32, 32) ∷ (9, 9) ∷ []) ((10, 10) ∷ (13, 13) ∷ []) false false (outside_set s.classes (one_of_two s.classes (one_text s.classes 32) (one_text s.classes 9))) (outside_sub s.classes ((10, 10) ∷ (13, 13) ∷ []) rule.newline refl refl refl (outside_choice s.classes ((10, 10) ∷ []) ((13, 13) ∷ []) false false (outside_set s.classes (one_text s.classes 10)) (outside_text s.classes))))) refl refl refl)) (within s rule.WHITESPACE refl refl refl (either s 209 208 210 refl (at_once s) (one_of s 1 (one_of_two s.classes (one_text s.classes 32) (one_text s.classes 9)) refl refl refl) (tested s 2 (outside_sub s.classes ((10, 10) ∷ (13, 13) ∷ []) rule.newline refl refl refl (outside_choice s.classes ((10, 10) ∷ []) ((13, 13) ∷ []) false false (outside_set s.classes (one_text s.classes 10)) (outside_text s.classes))) refl refl refl) (within s rule.newline refl refl refl (either s 211 210 211 refl (at_once s) (word s 30 refl refl refl) (at_once s) (word s 31 refl refl refl)))))) (between s) (many s 212 (op.IsOne 3 212 206) refl (λ c z. z) (tight_between s) refl (inl (tested s 3 (outside_seq s.classes ((47, 47) ∷ (47, 47) ∷ []) false (outside_sub s.classes ((47, 47) ∷ (47, 47) ∷ []) rule.COMMENT refl refl refl (outside_choice s.classes ((47, 47) ∷ []) ((47, 47) ∷ []) false false (outside_sub s.classes ((47, 47) ∷ []) rule.block_comment refl refl refl (outside_seq s.classes ((47, 47) ∷ []) false (outside_seq s.classes ((47, 47) ∷ []) false (outside_text s.classes)))) (outside_sub s.classes ((47, 47) ∷ []) rule.line_comment refl refl refl (outside_seq s.classes ((47, 47) ∷ []) false (outside_seq s.classes ((47, 47) ∷ []) false (outside_text s.classes))))))) refl refl refl)) (tries s 213 215 215 214 refl (enters s rule.COMMENT 191 192 at_COMMENT_atomic_apart refl refl refl refl refl) (between s) (many s 216 (op.IsOne 0 216 214) refl (λ c z. z) (tight_between s) refl (inl (tested s 0 (outside_sub s.classes ((32, 32) ∷ (9, 9) ∷ (10, 10) ∷ (13, 13) ∷ []) rule.WHITESPACE refl refl refl (outside_choice s.classes ((32, 32) ∷ (9, 9) ∷ []) ((10, 10) ∷ (13, 13) ∷ []) false false (outside_set s.classes (one_of_two s.classes (one_text s.classes 32) (one_text s.classes 9))) (outside_sub s.classes ((10, 10) ∷ (13, 13) ∷ []) rule.newline refl refl refl (outside_choice s.classes ((10, 10) ∷ []) ((13, 13) ∷ []) false false (outside_set s.classes (one_text s.classes 10)) (outside_text s.classes))))) refl refl refl)) (within s rule.WHITESPACE refl refl refl (either s 217 216 218 refl (at_once s) (one_of s 1 (one_of_two s.classes (one_text s.classes 32) (one_text s.classes 9)) refl refl refl) (tested s 2 (outside_sub s.classes ((10, 10) ∷ (13, 13) ∷ []) rule.newline refl refl refl (outside_choice s.classes ((10, 10) ∷ []) ((13, 13) ∷ []) false false (outside_set s.classes (one_text s.classes 10)) (outside_text s.classes))) refl refl refl) (within s rule.newline refl refl refl (either s 219 218 219 refl (at_once s) (word s 30 refl refl refl) (at_once s) (word s 31 refl refl refl)))))) refl)))) (turns s 220 222 223 224 225 refl (noted s 4 221 refl (outside_call s.classes ((47, 47) ∷ []) false rule.grammar_doc refl refl refl (outside_seq s.classes ((47, 47) ∷ []) false (outside_seq s.classes ((47, 47) ∷ []) false (outside_text s.classes)))) refl refl refl refl) refl refl (trivia_in_place s (seq 226 226 (many s 227 (op.IsOne 0 227 226) refl (λ c z. z) (tight_between s) refl (inl (tested s 0 (outside_sub s.classes ((32, 32) ∷ (9, 9) ∷ (10, 10) ∷ (13, 13) ∷ []) rule.WHITESPACE refl refl refl (outside_choice s.classes ((32, 32) ∷ (9, 9) ∷ []) ((10, 10) ∷ (13, 13) ∷ []) false false (outside_set s.classes (one_of_two s.classes (one_text s.classes 32) (one_text s.classes 9))) (outside_sub s.classes ((10, 10) ∷ (13, 13) ∷ []) rule.newline refl refl refl (outside_choice s.classes ((10, 10) ∷ []) ((13, 13) ∷ []) false false (outside_set s.classes (one_text s.classes 10)) (outside_text s.classes))))) refl refl refl)) (within s rule.WHITESPACE refl refl refl (either s 228 227 229 refl (at_once s) (one_of s 1 (one_of_two s.classes (one_text s.classes 32) (one_text s.classes 9)) refl refl refl) (tested s 2 (outside_sub s.classes ((10, 10) ∷ (13, 13) ∷ []) rule.newline refl refl refl (outside_choice s.classes ((10, 10) ∷ []) ((13, 13) ∷ []) false false (outside_set s.classes (one_text s.classes 10)) (outside_text s.classes))) refl refl refl) (within s rule.newline refl refl refl (either s 230 229 230 refl (at_once s) (word s 30 refl refl refl) (at_once s) (word s 31 refl refl refl)))))) (between s) (many s 231 (op.IsOne 3 231 224) refl (λ c z. z) (tight_between s) refl (inl (tested s 3 (outside_seq s.classes ((47, 47) ∷ (47, 47) ∷ []) false (outside_sub s.classes ((47, 47) ∷ (47, 47) ∷ []) rule.COMMENT refl refl refl (outside_choice s.classes ((47, 47) ∷ []) ((47, 47) ∷ []) false false (outside_sub s.classes ((47, 47) ∷ []) rule.block_comment refl refl refl (outside_seq s.classes ((47, 47) ∷ []) false (outside_seq s.classes ((47, 47) ∷ []) false (outside_text s.classes)))) (outside_sub s.classes ((47, 47) ∷ []) rule.line_comment refl refl refl (outside_seq s.classes ((47, 47) ∷ []) false (outside_seq s.classes ((47, 47) ∷ []) false (outside_text s.classes))))))) refl refl refl)) (tries s 232 234 234 233 refl (enters s rule.COMMENT 191 192 at_COMMENT_atomic_apart refl refl refl refl refl) (between s) (many s 235 (op.IsOne 0 235 233) refl (λ c z. z) (tight_between s) refl (inl (tested s 0 (outside_sub s.classes ((32, 32) ∷ (9, 9) ∷ (10, 10) ∷ (13, 13) ∷ []) rule.WHITESPACE refl refl refl (outside_choice s.classes ((32, 32) ∷ (9, 9) ∷ []) ((10, 10) ∷ (13, 13) ∷ []) false false (outside_set s.classes (one_of_two s.classes (one_text s.classes 32) (one_text s.classes 9))) (outside_sub s.classes ((10, 10) ∷ (13, 13) ∷ []) rule.newline refl refl refl (outside_choice s.classes ((10, 10) ∷ []) ((13, 13) ∷ []) false false (outside_set s.classes (one_text s.classes 10)) (outside_text s.classes))))) refl refl refl)) (within s rule.WHITESPACE refl refl refl (either s 236 235 237 refl (at_once s) (one_of s 1 (one_of_two s.classes (one_text s.classes 32) (one_text s.classes 9)) refl refl refl) (tested s 2 (outside_sub s.classes ((10, 10) ∷ (13, 13) ∷ []) rule.newline refl refl refl (outside_choice s.classes ((10, 10) ∷ []) ((13, 13) ∷ []) false false (outside_set s.classes (one_text s.classes 10)) (outside_text s.classes))) refl refl refl) (within s rule.newline refl refl refl (either s 238 237 238 refl (at_once s) (word s 30 refl refl refl) (at_once s) (word s 31 refl refl refl)))))) refl)))) (calls s rule.grammar_doc 195 196 at_grammar_doc_compound refl refl refl refl refl) refl)) (trivia_in_place s (seq 239 239 (many s 240 (op.IsOne 0 240 239) refl (λ c z. z) (tight_between s) refl (inl (tested s 0 (outside_sub s.classes ((32, 32) ∷ (9, 9) ∷ (10, 10) ∷ (13, 13) ∷ []) rule.WHITESPACE refl refl refl (outside_choice s.classes ((32, 32) ∷ (9, 9) ∷ []) ((10, 10) ∷ (13, 13) ∷ []) false false (outside_set s.classes (one_of_two s.classes (one_text s.classes 32) (one_text s.classes 9))) (outside_sub s.classes ((10, 10) ∷ (13, 13) ∷ []) rule.newline refl refl refl (outside_choice s.classes ((10, 10) ∷ []) ((13, 13) ∷ []) false false (outside_set s.classes (one_text s.classes 10)) (outside_text s.classes))))) refl refl refl)) (within s rule.WHITESPACE refl refl refl (either s 241 240 242 refl (at_once s) (one_of s 1 (one_of_two s.classes (one_text s.classes 32) (one_text s.classes 9)) refl refl refl) (tested s 2 (outside_sub s.classes ((10, 10) ∷ (13, 13) ∷ []) rule.newline refl refl refl (outside_choice s.classes ((10, 10) ∷ []) ((13, 13) ∷ []) false false (outside_set s.classes (one_text s.classes 10)) (outside_text s.classes))) refl refl refl) (within s rule.newline refl refl refl (either s 243 242 243 refl (at_once s) (word s 30 refl refl refl) (at_once s) (word s 31 refl refl refl)))))) (between s) (many s 244 (op.IsOne 3 244 204) refl (λ c z. z) (tight_between s) refl (inl (tested s 3 (outside_seq s.classes ((47, 47) ∷ (47, 47) ∷ []) false (outside_sub s.classes ((47, 47) ∷ (47, 47) ∷ []) rule.COMMENT refl refl refl (outside_choice s.classes ((47, 47) ∷ []) ((47, 47) ∷ []) false false (outside_sub s.classes ((47, 47) ∷ []) rule.block_comment refl refl refl (outside_seq s.classes ((47, 47) ∷ []) false (outside_seq s.classes ((47, 47) ∷ []) false (outside_text s.classes)))) (outside_sub s.classes ((47, 47) ∷ []) rule.line_comment refl refl refl (outside_seq s.classes ((47, 47) ∷ []) false (outside_seq s.classes ((47, 47) ∷ []) false (outside_text s.classes))))))) refl refl refl)) (tries s 245 247 247 246 refl (enters s rule.COMMENT 191 192 at_COMMENT_atomic_apart refl refl refl refl refl) (between s) (many s 248 (op.IsOne 0 248 246) refl (λ c z. z) (tight_between s) refl (inl (tested s 0 (outside_sub s.classes ((32, 32) ∷ (9, 9) ∷ (10, 10) ∷ (13, 13) ∷ []) rule.WHITESPACE refl refl refl (outside_choice s.classes ((32, 32) ∷ (9, 9) ∷ []) ((10, 10) ∷ (13, 13) ∷ []) false false (outside_set s.classes (one_of_two s.classes (one_text s.classes 32) (one_text s.classes 9))) (outside_sub s.classes ((10, 10) ∷ (13, 13) ∷ []) rule.newline refl refl refl (outside_choice s.classes ((10, 10) ∷ []) ((13, 13) ∷ []) false false (outside_set s.classes (one_text s.classes 10)) (outside_text s.classes))))) refl refl refl)) (within s rule.WHITESPACE refl refl refl (either s 249 248 250 refl (at_once s) (one_of s 1 (one_of_two s.classes (one_text s.classes 32) (one_text s.classes 9)) refl refl refl) (tested s 2 (outside_sub s.classes ((10, 10) ∷ (13, 13) ∷ []) rule.newline refl refl refl (outside_choice s.classes ((10, 10) ∷ []) ((13, 13) ∷ []) false false (outside_set s.classes (one_text s.classes 10)) (outside_text s.classes))) refl refl refl) (within s rule.newline refl refl refl (either s 251 250 251 refl (at_once s) (word s 30 refl refl refl) (at_once s) (word s 31 refl refl refl)))))) refl)))) (turns s 252 254 255 256 257 refl (noted s 5 253 refl (outside_call s.classes ((95, 95) ∷ (97, 122) ∷ (65, 90) ∷ (47, 47) ∷ []) true rule.grammar_rule refl refl refl (outside_choice s.classes ((95, 95) ∷ (97, 122) ∷ (65, 90) ∷ []) ((47, 47) ∷ []) true true (outside_seq s.classes ((95, 95) ∷ (97, 122) ∷ (65, 90) ∷ []) true (outside_seq s.classes ((95, 95) ∷ (97, 122) ∷ (65, 90) ∷ []) true (outside_seq s.classes ((95, 95) ∷ (97, 122) ∷ (65, 90) ∷ []) true (outside_seq s.classes ((95, 95) ∷ (97, 122) ∷ (65, 90) ∷ []) true (outside_seq s.classes ((95, 95) ∷ (97, 122) ∷ (65, 90) ∷ []) true (outside_call s.classes ((95, 95) ∷ (97, 122) ∷ (65, 90) ∷ []) false rule.identifier refl refl refl (outside_seq s.classes ((95, 95) ∷ (97, 122) ∷ (65, 90) ∷ []) false (outside_not s.classes ((95, 95) ∷ (97, 122) ∷ (65, 90) ∷ []) (tight_atomic s) (outside_set s.classes (one_of_two s.classes (one_text s.classes 95) (one_called s.classes rule.alpha refl refl refl (one_of_two s.classes (one_range s.classes 97 122) (one_range s.classes 65 90))))))))))))) (outside_call s.classes ((47, 47) ∷ []) false rule.line_doc refl refl refl (outside_seq s.classes ((47, 47) ∷ []) false (outside_seq s.classes ((47, 47) ∷ []) false (outside_text s.classes)))))) refl refl refl refl) refl refl (trivia_in_place s (seq 258 258 (many s 259 (op.IsOne 0 259 258) refl (λ c z. z) (tight_between s) refl (inl (tested s 0 (outside_sub s.classes ((32, 32) ∷ (9, 9) ∷ (10, 10) ∷ (13, 13) ∷ []) rule.WHITESPACE refl refl refl (outside_choice s.classes ((32, 32) ∷ (9, 9) ∷ []) ((10, 10) ∷ (13, 13) ∷ []) false false (outside_set s.classes (one_of_two s.classes (one_text s.classes 32) (one_text s.classes 9))) (outside_sub s.classes ((10, 10) ∷ (13, 13) ∷ []) rule.newline refl refl refl (outside_choice s.classes ((10, 10) ∷ []) ((13, 13) ∷ []) false false (outside_set s.classes (one_text s.classes 10)) (outside_text s.classes))))) refl refl refl)) (within s rule.WHITESPACE refl refl refl (either s 260 259 261 refl (at_once s) (one_of s 1 (one_of_two s.classes (one_text s.classes 32) (one_text s.classes 9)) refl refl refl) (tested s 2 (outside_sub s.classes ((10, 10) ∷ (13, 13) ∷ []) rule.newline refl refl refl (outside_choice s.classes ((10, 10) ∷ []) ((13, 13) ∷ []) false false (outside_set s.classes (one_text s.classes 10)) (outside_text s.classes))) refl refl refl) (within s rule.newline refl refl refl (either s 262 261 262 refl (at_once s) (word s 30 refl refl refl) (at_once s) (word s 31 refl refl refl)))))) (between s) (many s 263 (op.IsOne 3 263 256) refl (λ c z. z) (tight_between s) refl (inl (tested s 3 (outside_seq s.classes ((47, 47) ∷ (47, 47) ∷ []) false (outside_sub s.classes ((47, 47) ∷ (47, 47) ∷ []) rule.COMMENT refl refl refl (outside_choice s.classes ((47, 47) ∷ []) ((47, 47) ∷ []) false false (outside_sub s.classes ((47, 47) ∷ []) rule.block_comment refl refl refl (outside_seq s.classes ((47, 47) ∷ []) false (outside_seq s.classes ((47, 47) ∷ []) false (outside_text s.classes)))) (outside_sub s.classes ((47, 47) ∷ []) rule.line_comment refl refl refl (outside_seq s.classes ((47, 47) ∷ []) false (outside_seq s.classes ((47, 47) ∷ []) false (outside_text s.classes))))))) refl refl refl)) (tries s 264 266 266 265 refl (enters s rule.COMMENT 191 192 at_COMMENT_atomic_apart refl refl refl refl refl) (between s) (many s 267 (op.IsOne 0 267 265) refl (λ c z. z) (tight_between s) refl (inl (tested s 0 (outside_sub s.classes ((32, 32) ∷ (9, 9) ∷ (10, 10) ∷ (13, 13) ∷ []) rule.WHITESPACE refl refl refl (outside_choice s.classes ((32, 32) ∷ (9, 9) ∷ []) ((10, 10) ∷ (13, 13) ∷ []) false false (outside_set s.classes (one_of_two s.classes (one_text s.classes 32) (one_text s.classes 9))) (outside_sub s.classes ((10, 10) ∷ (13, 13) ∷ []) rule.newline refl refl refl (outside_choice s.classes ((10, 10) ∷ []) ((13, 13) ∷ []) false false (outside_set s.classes (one_text s.classes 10)) (outside_text s.classes))))) refl refl refl)) (within s rule.WHITESPACE refl refl refl (either s 268 267 269 refl (at_once s) (one_of s 1 (one_of_two s.classes (one_text s.classes 32) (one_text s.classes 9)) refl refl refl) (tested s 2 (outside_sub s.classes ((10, 10) ∷ (13, 13) ∷ []) rule.newline refl refl refl (outside_choice s.classes ((10, 10) ∷ []) ((13, 13) ∷ []) false false (outside_set s.classes (one_text s.classes 10)) (outside_text s.classes))) refl refl refl) (within s rule.newline refl refl refl (either s 270 269 270 refl (at_once s) (word s 30 refl refl refl) (at_once s) (word s 31 refl refl refl)))))) refl)))) (calls s rule.grammar_rule 73 74 at_grammar_rule_plain refl refl refl refl refl) refl)) (trivia_in_place s (seq 271 271 (many s 272 (op.IsOne 0 272 271) refl (λ c z. z) (tight_between s) refl (inl (tested s 0 (outside_sub s.classes ((32, 32) ∷ (9, 9) ∷ (10, 10) ∷ (13, 13) ∷ []) rule.WHITESPACE refl refl refl (outside_choice s.classes ((32, 32) ∷ (9, 9) ∷ []) ((10, 10) ∷ (13, 13) ∷ []) false false (outside_set s.classes (one_of_two s.classes (one_text s.classes 32) (one_text s.classes 9))) (outside_sub s.classes ((10, 10) ∷ (13, 13) ∷ []) rule.newline refl refl refl (outside_choice s.classes ((10, 10) ∷ []) ((13, 13) ∷ []) false false (outside_set s.classes (one_text s.classes 10)) (outside_text s.classes))))) refl refl refl)) (within s rule.WHITESPACE refl refl refl (either s 273 272 274 refl (at_once s) (one_of s 1 (one_of_two s.classes (one_text s.classes 32) (one_text s.classes 9)) refl refl refl) (tested s 2 (outside_sub s.classes ((10, 10) ∷ (13, 13) ∷ []) rule.newline refl refl refl (outside_choice s.classes ((10, 10) ∷ []) ((13, 13) ∷ []) false false (outside_set s.classes (one_text s.classes 10)) (outside_text s.classes))) refl refl refl) (within s rule.newline refl refl refl (either s 275 274 275 refl (at_once s) (word s 30 refl refl refl) (at_once s) (word s 31 refl refl refl)))))) (between s) (many s 276 (op.IsOne 3 276 202) refl (λ c z. z) (tight_between s) refl (inl (tested s 3 (outside_seq s.classes ((47, 47) ∷ (47, 47) ∷ []) false (outside_sub s.classes ((47, 47) ∷ (47, 47) ∷ []) rule.COMMENT refl refl refl (outside_choice s.classes ((47, 47) ∷ []) ((47, 47) ∷ []) false false (outside_sub s.classes ((47, 47) ∷ []) rule.block_comment refl refl refl (outside_seq s.classes ((47, 47) ∷ []) false (outside_seq s.classes ((47, 47) ∷ []) false (outside_text s.classes)))) (outside_sub s.classes ((47, 47) ∷ []) rule.line_comment refl refl refl (outside_seq s.classes ((47, 47) ∷ []) false (outside_seq s.classes ((47, 47) ∷ []) false (outside_text s.classes))))))) refl refl refl)) (tries s 277 279 279 278 refl (enters s rule.COMMENT 191 192 at_COMMENT_atomic_apart refl refl refl refl refl) (between s) (many s 280 (op.IsOne 0 280 278) refl (λ c z. z) (tight_between s) refl (inl (tested s 0 (outside_sub s.classes ((32, 32) ∷ (9, 9) ∷ (10, 10) ∷ (13, 13) ∷ []) rule.WHITESPACE refl refl refl (outside_choice s.classes ((32, 32) ∷ (9, 9) ∷ []) ((10, 10) ∷ (13, 13) ∷ []) false false (outside_set s.classes (one_of_two s.classes (one_text s.classes 32) (one_text s.classes 9))) (outside_sub s.classes ((10, 10) ∷ (13, 13) ∷ []) rule.newline refl refl refl (outside_choice s.classes ((10, 10) ∷ []) ((13, 13) ∷ []) false false (outside_set s.classes (one_text s.classes 10)) (outside_text s.classes))))) refl refl refl)) (within s rule.WHITESPACE refl refl refl (either s 281 280 282 refl (at_once s) (one_of s 1 (one_of_two s.classes (one_text s.classes 32) (one_text s.classes 9)) refl refl refl) (tested s 2 (outside_sub s.classes ((10, 10) ∷ (13, 13) ∷ []) rule.newline refl refl refl (outside_choice s.classes ((10, 10) ∷ []) ((13, 13) ∷ []) false false (outside_set s.classes (one_text s.classes 10)) (outside_text s.classes))) refl refl refl) (within s rule.newline refl refl refl (either s 283 282 283 refl (at_once s) (word s 30 refl refl refl) (at_once s) (word s 31 refl refl refl)))))) refl)))) (end s 284 285 tt refl refl refl refl)
 
   grammar_rule_plain : Laid s (Run NonAtomicMode (body_of rule.grammar_rule)) 73 74 0
   unfolding whitespace comment
-  grammar_rule_plain = either s 286 287 286 refl (noted s 6 288 refl (outside_seq s.classes ((95, 95) ∷ (97, 122) ∷ (65, 90) ∷ []) true (outside_seq s.classes ((95, 95) ∷ (97, 122) ∷ (65, 90) ∷ []) true (outside_seq s.classes ((95, 95) ∷ (97, 122) ∷ (65, 90) ∷ []) true (outside_seq s.classes ((95, 95) ∷ (97, 122) ∷ (65, 90) ∷ []) true (outside_seq s.classes ((95, 95) ∷ (97, 122) ∷ (65, 90) ∷ []) true (outside_call s.classes ((95, 95) ∷ (97, 122) ∷ (65, 90) ∷ []) false rule.identifier refl refl refl (outside_seq s.classes ((95, 95) ∷ (97, 122) ∷ (65, 90) ∷ []) false (outside_not s.classes ((95, 95) ∷ (97, 122) ∷ (65, 90) ∷ []) (tight_atomic s) (outside_set s.classes (one_of_two s.classes (one_text s.classes 95) (one_called s.classes rule.alpha refl refl refl (one_of_two s.classes (one_range s.classes 97 122) (one_range s.classes 65 90))))))))))))) refl refl refl refl) (tries s 289 291 292 290 refl (seq 293 294 (seq 295 296 (seq 297 298 (seq 299 300 (calls s rule.identifier 151 152 at_identifier_atomic refl refl refl refl refl) (gap_in_place s (seq 301 301 (many s 302 (op.IsOne 0 302 301) refl (λ c z. z) (tight_between s) refl (inl (tested s 0 (outside_sub s.classes ((32, 32) ∷ (9, 9) ∷ (10, 10) ∷ (13, 13) ∷ []) rule.WHITESPACE refl refl refl (outside_choice s.classes ((32, 32) ∷ (9, 9) ∷ []) ((10, 10) ∷ (13, 13) ∷ []) false false (outside_set s.classes (one_of_two s.classes (one_text s.classes 32) (one_text s.classes 9))) (outside_sub s.classes ((10, 10) ∷ (13, 13) ∷ []) rule.newline refl refl refl (outside_choice s.classes ((10, 10) ∷ []) ((13, 13) ∷ []) false false (outside_set s.classes (one_text s.classes 10)) (outside_text s.classes))))) refl refl refl)) (within s rule.WHITESPACE refl refl refl (either s 303 302 304 refl (at_once s) (one_of s 1 (one_of_two s.classes (one_text s.classes 32) (one_text s.classes 9)) refl refl refl) (tested s 2 (outside_sub s.classes ((10, 10) ∷ (13, 13) ∷ []) rule.newline refl refl refl (outside_choice s.classes ((10, 10) ∷ []) ((13, 13) ∷ []) false false (outside_set s.classes (one_text s.classes 10)) (outside_text s.classes))) refl refl refl) (within s rule.newline refl refl refl (either s 305 304 305 refl (at_once s) (word s 30 refl refl refl) (at_once s) (word s 31 refl refl refl)))))) (between s) (many s 306 (op.IsOne 3 306 300) refl (λ c z. z) (tight_between s) refl (inl (tested s 3 (outside_seq s.classes ((47, 47) ∷ (47, 47) ∷ []) false (outside_sub s.classes ((47, 47) ∷ (47, 47) ∷ []) rule.COMMENT refl refl refl (outside_choice s.classes ((47, 47) ∷ []) ((47, 47) ∷ []) false false (outside_sub s.classes ((47, 47) ∷ []) rule.block_comment refl refl refl (outside_seq s.classes ((47, 47) ∷ []) false (outside_seq s.classes ((47, 47) ∷ []) false (outside_text s.classes)))) (outside_sub s.classes ((47, 47) ∷ []) rule.line_comment refl refl refl (outside_seq s.classes ((47, 47) ∷ []) false (outside_seq s.classes ((47, 47) ∷ []) false (outside_text s.classes))))))) refl refl refl)) (tries s 307 309 309 308 refl (enters s rule.COMMENT 191 192 at_COMMENT_atomic_apart refl refl refl refl refl) (between s) (many s 310 (op.IsOne 0 310 308) refl (λ c z. z) (tight_between s) refl (inl (tested s 0 (outside_sub s.classes ((32, 32) ∷ (9, 9) ∷ (10, 10) ∷ (13, 13) ∷ []) rule.WHITESPACE refl refl refl (outside_choice s.classes ((32, 32) ∷ (9, 9) ∷ []) ((10, 10) ∷ (13, 13) ∷ []) false false (outside_set s.classes (one_of_two s.classes (one_text s.classes 32) (one_text s.classes 9))) (outside_sub s.classes ((10, 10) ∷ (13, 13) ∷ []) rule.newline refl refl refl (outside_choice s.classes ((10, 10) ∷ []) ((13, 13) ∷ []) false false (outside_set s.classes (one_text s.classes 10)) (outside_text s.classes))))) refl refl refl)) (within s rule.WHITESPACE refl refl refl (either s 311 310 312 refl (at_once s) (one_of s 1 (one_of_two s.classes (one_text s.classes 32) (one_text s.classes 9)) refl refl refl) (tested s 2 (outside_sub s.classes ((10, 10) ∷ (13, 13) ∷ []) rule.newline refl refl refl (outside_choice s.classes ((10, 10) ∷ []) ((13, 13) ∷ []) false false (outside_set s.classes (one_text s.classes 10)) (outside_text s.classes))) refl refl refl) (within s rule.newline refl refl refl (either s 313 312 313 refl (at_once s) (word s 30 refl refl refl) (at_once s) (word s 31 refl refl refl)))))) refl)))) (calls s rule.assignment_operator 75 76 at_assignment_operator_plain refl refl refl refl refl)) (gap_in_place s (seq 314 314 (many s 315 (op.IsOne 0 315 314) refl (λ c z. z) (tight_between s) refl (inl (tested s 0 (outside_sub s.classes ((32, 32) ∷ (9, 9) ∷ (10, 10) ∷ (13, 13) ∷ []) rule.WHITESPACE refl refl refl (outside_choice s.classes ((32, 32) ∷ (9, 9) ∷ []) ((10, 10) ∷ (13, 13) ∷ []) false false (outside_set s.classes (one_of_two s.classes (one_text s.classes 32) (one_text s.classes 9))) (outside_sub s.classes ((10, 10) ∷ (13, 13) ∷ []) rule.newline refl refl refl (outside_choice s.classes ((10, 10) ∷ []) ((13, 13) ∷ []) false false (outside_set s.classes (one_text s.classes 10)) (outside_text s.classes))))) refl refl refl)) (within s rule.WHITESPACE refl refl refl (either s 316 315 317 refl (at_once s) (one_of s 1 (one_of_two s.classes (one_text s.classes 32) (one_text s.classes 9)) refl refl refl) (tested s 2 (outside_sub s.classes ((10, 10) ∷ (13, 13) ∷ []) rule.newline refl refl refl (outside_choice s.classes ((10, 10) ∷ []) ((13, 13) ∷ []) false false (outside_set s.classes (one_text s.classes 10)) (outside_text s.classes))) refl refl refl) (within s rule.newline refl refl refl (either s 318 317 318 refl (at_once s) (word s 30 refl refl refl) (at_once s) (word s 31 refl refl refl)))))) (between s) (many s 319 (op.IsOne 3 319 298) refl (λ c z. z) (tight_between s) refl (inl (tested s 3 (outside_seq s.classes ((47, 47) ∷ (47, 47) ∷ []) false (outside_sub s.classes ((47, 47) ∷ (47, 47) ∷ []) rule.COMMENT refl refl refl (outside_choice s.classes ((47, 47) ∷ []) ((47, 47) ∷ []) false false (outside_sub s.classes ((47, 47) ∷ []) rule.block_comment refl refl refl (outside_seq s.classes ((47, 47) ∷ []) false (outside_seq s.classes ((47, 47) ∷ []) false (outside_text s.classes)))) (outside_sub s.classes ((47, 47) ∷ []) rule.line_comment refl refl refl (outside_seq s.classes ((47, 47) ∷ []) false (outside_seq s.classes ((47, 47) ∷ []) false (outside_text s.classes))))))) refl refl refl)) (tries s 320 322 322 321 refl (enters s rule.COMMENT 191 192 at_COMMENT_atomic_apart refl refl refl refl refl) (between s) (many s 323 (op.IsOne 0 323 321) refl (λ c z. z) (tight_between s) refl (inl (tested s 0 (outside_sub s.classes ((32, 32) ∷ (9, 9) ∷ (10, 10) ∷ (13, 13) ∷ []) rule.WHITESPACE refl refl refl (outside_choice s.classes ((32, 32) ∷ (9, 9) ∷ []) ((10, 10) ∷ (13, 13) ∷ []) false false (outside_set s.classes (one_of_two s.classes (one_text s.classes 32) (one_text s.classes 9))) (outside_sub s.classes ((10, 10) ∷ (13, 13) ∷ []) rule.newline refl refl refl (outside_choice s.classes ((10, 10) ∷ []) ((13, 13) ∷ []) false false (outside_set s.classes (one_text s.classes 10)) (outside_text s.classes))))) refl refl refl)) (within s rule.WHITESPACE refl refl refl (either s 324 323 325 refl (at_once s) (one_of s 1 (one_of_two s.classes (one_text s.classes 32) (one_text s.classes 9)) refl refl refl) (tested s 2 (outside_sub s.classes ((10, 10) ∷ (13, 13) ∷ []) rule.newline refl refl refl (outside_choice s.classes ((10, 10) ∷ []) ((13, 13) ∷ []) false false (outside_set s.classes (one_text s.classes 10)) (outside_text s.classes))) refl refl refl) (within s rule.newline refl refl refl (either s 326 325 326 refl (at_once s) (word s 30 refl refl refl) (at_once s) (word s 31 refl refl refl)))))) refl)))) (maybe s 327 refl (noted s 7 328 refl (outside_silent s.classes ((95, 95) ∷ (64, 64) ∷ (36, 36) ∷ (33, 33) ∷ []) rule.modifier refl refl refl (outside_choice s.classes ((95, 95) ∷ (64, 64) ∷ (36, 36) ∷ []) ((33, 33) ∷ []) true true (outside_choice s.classes ((95, 95) ∷ (64, 64) ∷ []) ((36, 36) ∷ []) true true (outside_choice s.classes ((95, 95) ∷ []) ((64, 64) ∷ []) true true (outside_call s.classes ((95, 95) ∷ []) false rule.silent_modifier refl refl refl (outside_set s.classes (one_text s.classes 95))) (outside_call s.classes ((64, 64) ∷ []) false rule.atomic_modifier refl refl refl (outside_set s.classes (one_text s.classes 64)))) (outside_call s.classes ((36, 36) ∷ []) false rule.compound_atomic_modifier refl refl refl (outside_set s.classes (one_text s.classes 36)))) (outside_call s.classes ((33, 33) ∷ []) false rule.non_atomic_modifier refl refl refl (outside_set s.classes (one_text s.classes 33))))) refl refl refl refl) (within s rule.modifier refl refl refl (either s 329 330 342 refl (noted s 8 331 refl (outside_choice s.classes ((95, 95) ∷ (64, 64) ∷ []) ((36, 36) ∷ []) true true (outside_choice s.classes ((95, 95) ∷ []) ((64, 64) ∷ []) true true (outside_call s.classes ((95, 95) ∷ []) false rule.silent_modifier refl refl refl (outside_set s.classes (one_text s.classes 95))) (outside_call s.classes ((64, 64) ∷ []) false rule.atomic_modifier refl refl refl (outside_set s.classes (one_text s.classes 64)))) (outside_call s.classes ((36, 36) ∷ []) false rule.compound_atomic_modifier refl refl refl (outside_set s.classes (one_text s.classes 36)))) refl refl refl refl) (either s 332 333 340 refl (noted s 9 334 refl (outside_choice s.classes ((95, 95) ∷ []) ((64, 64) ∷ []) true true (outside_call s.classes ((95, 95) ∷ []) false rule.silent_modifier refl refl refl (outside_set s.classes (one_text s.classes 95))) (outside_call s.classes ((64, 64) ∷ []) false rule.atomic_modifier refl refl refl (outside_set s.classes (one_text s.classes 64)))) refl refl refl refl) (either s 335 336 338 refl (noted s 10 337 refl (outside_call s.classes ((95, 95) ∷ []) false rule.silent_modifier refl refl refl (outside_set s.classes (one_text s.classes 95))) refl refl refl refl) (calls s rule.silent_modifier 91 92 at_silent_modifier_plain refl refl refl refl refl) (noted s 11 339 refl (outside_call s.classes ((64, 64) ∷ []) false rule.atomic_modifier refl refl refl (outside_set s.classes (one_text s.classes 64))) refl refl refl refl) (calls s rule.atomic_modifier 93 94 at_atomic_modifier_plain refl refl refl refl refl)) (noted s 12 341 refl (outside_call s.classes ((36, 36) ∷ []) false rule.compound_atomic_modifier refl refl refl (outside_set s.classes (one_text s.classes 36))) refl refl refl refl) (calls s rule.compound_atomic_modifier 95 96 at_compound_atomic_modifier_plain refl refl refl refl refl)) (noted s 13 343 refl (outside_call s.classes ((33, 33) ∷ []) false rule.non_atomic_modifier refl refl refl (outside_set s.classes (one_text s.classes 33))) refl refl refl refl) (calls s rule.non_atomic_modifier 97 98 at_non_atomic_modifier_plain refl refl refl refl refl))))) (gap_in_place s (seq 344 344 (many s 345 (op.IsOne 0 345 344) refl (λ c z. z) (tight_between s) refl (inl (tested s 0 (outside_sub s.classes ((32, 32) ∷ (9, 9) ∷ (10, 10) ∷ (13, 13) ∷ []) rule.WHITESPACE refl refl refl (outside_choice s.classes ((32, 32) ∷ (9, 9) ∷ []) ((10, 10) ∷ (13, 13) ∷ []) false false (outside_set s.classes (one_of_two s.classes (one_text s.classes 32) (one_text s.classes 9))) (outside_sub s.classes ((10, 10) ∷ (13, 13) ∷ []) rule.newline refl refl refl (outside_choice s.classes ((10, 10) ∷ []) ((13, 13) ∷ []) false false (outside_set s.classes (one_text s.classes 10)) (outside_text s.classes))))) refl refl refl)) (within s rule.WHITESPACE refl refl refl (either s 346 345 347 refl (at_once s) (one_of s 1 (one_of_two s.classes (one_text s.classes 32) (one_text s.classes 9)) refl refl refl) (tested s 2 (outside_sub s.classes ((10, 10) ∷ (13, 13) ∷ []) rule.newline refl refl refl (outside_choice s.classes ((10, 10) ∷ []) ((13, 13) ∷ []) false false (outside_set s.classes (one_text s.classes 10)) (outside_text s.classes))) refl refl refl) (within s rule.newline refl refl refl (either s 348 347 348 refl (at_once s) (word s 30 refl refl refl) (at_once s) (word s 31 refl refl refl)))))) (between s) (many s 349 (op.IsOne 3 349 296) refl (λ c z. z) (tight_between s) refl (inl (tested s 3 (outside_seq s.classes ((47, 47) ∷ (47, 47) ∷ []) false (outside_sub s.classes ((47, 47) ∷ (47, 47) ∷ []) rule.COMMENT refl refl refl (outside_choice s.classes ((47, 47) ∷ []) ((47, 47) ∷ []) false false (outside_sub s.classes ((47, 47) ∷ []) rule.block_comment refl refl refl (outside_seq s.classes ((47, 47) ∷ []) false (outside_seq s.classes ((47, 47) ∷ []) false (outside_text s.classes)))) (outside_sub s.classes ((47, 47) ∷ []) rule.line_comment refl refl refl (outside_seq s.classes ((47, 47) ∷ []) false (outside_seq s.classes ((47, 47) ∷ []) false (outside_text s.classes))))))) refl refl refl)) (tries s 350 352 352 351 refl (enters s rule.COMMENT 191 192 at_COMMENT_atomic_apart refl refl refl refl refl) (between s) (many s 353 (op.IsOne 0 353 351) refl (λ c z. z) (tight_between s) refl (inl (tested s 0 (outside_sub s.classes ((32, 32) ∷ (9, 9) ∷ (10, 10) ∷ (13, 13) ∷ []) rule.WHITESPACE refl refl refl (outside_choice s.classes ((32, 32) ∷ (9, 9) ∷ []) ((10, 10) ∷ (13, 13) ∷ []) false false (outside_set s.classes (one_of_two s.classes (one_text s.classes 32) (one_text s.classes 9))) (outside_sub s.classes ((10, 10) ∷ (13, 13) ∷ []) rule.newline refl refl refl (outside_choice s.classes ((10, 10) ∷ []) ((13, 13) ∷ []) false false (outside_set s.classes (one_text s.classes 10)) (outside_text s.classes))))) refl refl refl)) (within s rule.WHITESPACE refl refl refl (either s 354 353 355 refl (at_once s) (one_of s 1 (one_of_two s.classes (one_text s.classes 32) (one_text s.classes 9)) refl refl refl) (tested s 2 (outside_sub s.classes ((10, 10) ∷ (13, 13) ∷ []) rule.newline refl refl refl (outside_choice s.classes ((10, 10) ∷ []) ((13, 13) ∷ []) false false (outside_set s.classes (one_text s.classes 10)) (outside_text s.classes))) refl refl refl) (within s rule.newline refl refl refl (either s 356 355 356 refl (at_once s) (word s 30 refl refl refl) (at_once s) (word s 31 refl refl refl)))))) refl)))) (calls s rule.opening_brace 77 78 at_opening_brace_plain refl refl refl refl refl)) (gap_in_place s (seq 357 357 (many s 358 (op.IsOne 0 358 357) refl (λ c z. z) (tight_between s) refl (inl (tested s 0 (outside_sub s.classes ((32, 32) ∷ (9, 9) ∷ (10, 10) ∷ (13, 13) ∷ []) rule.WHITESPACE refl refl refl (outside_choice s.classes ((32, 32) ∷ (9, 9) ∷ []) ((10, 10) ∷ (13, 13) ∷ []) false false (outside_set s.classes (one_of_two s.classes (one_text s.classes 32) (one_text s.classes 9))) (outside_sub s.classes ((10, 10) ∷ (13, 13) ∷ []) rule.newline refl refl refl (outside_choice s.classes ((10, 10) ∷ []) ((13, 13) ∷ []) false false (outside_set s.classes (one_text s.classes 10)) (outside_text s.classes))))) refl refl refl)) (within s rule.WHITESPACE refl refl refl (either s 359 358 360 refl (at_once s) (one_of s 1 (one_of_two s.classes (one_text s.classes 32) (one_text s.classes 9)) refl refl refl) (tested s 2 (outside_sub s.classes ((10, 10) ∷ (13, 13) ∷ []) rule.newline refl refl refl (outside_choice s.classes ((10, 10) ∷ []) ((13, 13) ∷ []) false false (outside_set s.classes (one_text s.classes 10)) (outside_text s.classes))) refl refl refl) (within s rule.newline refl refl refl (either s 361 360 361 refl (at_once s) (word s 30 refl refl refl) (at_once s) (word s 31 refl refl refl)))))) (between s) (many s 362 (op.IsOne 3 362 294) refl (λ c z. z) (tight_between s) refl (inl (tested s 3 (outside_seq s.classes ((47, 47) ∷ (47, 47) ∷ []) false (outside_sub s.classes ((47, 47) ∷ (47, 47) ∷ []) rule.COMMENT refl refl refl (outside_choice s.classes ((47, 47) ∷ []) ((47, 47) ∷ []) false false (outside_sub s.classes ((47, 47) ∷ []) rule.block_comment refl refl refl (outside_seq s.classes ((47, 47) ∷ []) false (outside_seq s.classes ((47, 47) ∷ []) false (outside_text s.classes)))) (outside_sub s.classes ((47, 47) ∷ []) rule.line_comment refl refl refl (outside_seq s.classes ((47, 47) ∷ []) false (outside_seq s.classes ((47, 47) ∷ []) false (outside_text s.classes))))))) refl refl refl)) (tries s 363 365 365 364 refl (enters s rule.COMMENT 191 192 at_COMMENT_atomic_apart refl refl refl refl refl) (between s) (many s 366 (op.IsOne 0 366 364) refl (λ c z. z) (tight_between s) refl (inl (tested s 0 (outside_sub s.classes ((32, 32) ∷ (9, 9) ∷ (10, 10) ∷ (13, 13) ∷ []) rule.WHITESPACE refl refl refl (outside_choice s.classes ((32, 32) ∷ (9, 9) ∷ []) ((10, 10) ∷ (13, 13) ∷ []) false false (outside_set s.classes (one_of_two s.classes (one_text s.classes 32) (one_text s.classes 9))) (outside_sub s.classes ((10, 10) ∷ (13, 13) ∷ []) rule.newline refl refl refl (outside_choice s.classes ((10, 10) ∷ []) ((13, 13) ∷ []) false false (outside_set s.classes (one_text s.classes 10)) (outside_text s.classes))))) refl refl refl)) (within s rule.WHITESPACE refl refl refl (either s 367 366 368 refl (at_once s) (one_of s 1 (one_of_two s.classes (one_text s.classes 32) (one_text s.classes 9)) refl refl refl) (tested s 2 (outside_sub s.classes ((10, 10) ∷ (13, 13) ∷ []) rule.newline refl refl refl (outside_choice s.classes ((10, 10) ∷ []) ((13, 13) ∷ []) false false (outside_set s.classes (one_text s.classes 10)) (outside_text s.classes))) refl refl refl) (within s rule.newline refl refl refl (either s 369 368 369 refl (at_once s) (word s 30 refl refl refl) (at_once s) (word s 31 refl refl refl)))))) refl)))) (calls s rule.expression 103 104 at_expression_plain refl refl refl refl refl)) (gap_in_place s (seq 370 370 (many s 371 (op.IsOne 0 371 370) refl (λ c z. z) (tight_between s) refl (inl (tested s 0 (outside_sub s.classes ((32, 32) ∷ (9, 9) ∷ (10, 10) ∷ (13, 13) ∷ []) rule.WHITESPACE refl refl refl (outside_choice s.classes ((32, 32) ∷ (9, 9) ∷ []) ((10, 10) ∷ (13, 13) ∷ []) false false (outside_set s.classes (one_of_two s.classes (one_text s.classes 32) (one_text s.classes 9))) (outside_sub s.classes ((10, 10) ∷ (13, 13) ∷ []) rule.newline refl refl refl (outside_choice s.classes ((10, 10) ∷ []) ((13, 13) ∷ []) false false (outside_set s.classes (one_text s.classes 10)) (outside_text s.classes))))) refl refl refl)) (within s rule.WHITESPACE refl refl refl (either s 372 371 373 refl (at_once s) (one_of s 1 (one_of_two s.classes (one_text s.classes 32) (one_text s.classes 9)) refl refl refl) (tested s 2 (outside_sub s.classes ((10, 10) ∷ (13, 13) ∷ []) rule.newline refl refl refl (outside_choice s.classes ((10, 10) ∷ []) ((13, 13) ∷ []) false false (outside_set s.classes (one_text s.classes 10)) (outside_text s.classes))) refl refl refl) (within s rule.newline refl refl refl (either s 374 373 374 refl (at_once s) (word s 30 refl refl refl) (at_once s) (word s 31 refl refl refl)))))) (between s) (many s 375 (op.IsOne 3 375 292) refl (λ c z. z) (tight_between s) refl (inl (tested s 3 (outside_seq s.classes ((47, 47) ∷ (47, 47) ∷ []) false (outside_sub s.classes ((47, 47) ∷ (47, 47) ∷ []) rule.COMMENT refl refl refl (outside_choice s.classes ((47, 47) ∷ []) ((47, 47) ∷ []) false false (outside_sub s.classes ((47, 47) ∷ []) rule.block_comment refl refl refl (outside_seq s.classes ((47, 47) ∷ []) false (outside_seq s.classes ((47, 47) ∷ []) false (outside_text s.classes)))) (outside_sub s.classes ((47, 47) ∷ []) rule.line_comment refl refl refl (outside_seq s.classes ((47, 47) ∷ []) false (outside_seq s.classes ((47, 47) ∷ []) false (outside_text s.classes))))))) refl refl refl)) (tries s 376 378 378 377 refl (enters s rule.COMMENT 191 192 at_COMMENT_atomic_apart refl refl refl refl refl) (between s) (many s 379 (op.IsOne 0 379 377) refl (λ c z. z) (tight_between s) refl (inl (tested s 0 (outside_sub s.classes ((32, 32) ∷ (9, 9) ∷ (10, 10) ∷ (13, 13) ∷ []) rule.WHITESPACE refl refl refl (outside_choice s.classes ((32, 32) ∷ (9, 9) ∷ []) ((10, 10) ∷ (13, 13) ∷ []) false false (outside_set s.classes (one_of_two s.classes (one_text s.classes 32) (one_text s.classes 9))) (outside_sub s.classes ((10, 10) ∷ (13, 13) ∷ []) rule.newline refl refl refl (outside_choice s.classes ((10, 10) ∷ []) ((13, 13) ∷ []) false false (outside_set s.classes (one_text s.classes 10)) (outside_text s.classes))))) refl refl refl)) (within s rule.WHITESPACE refl refl refl (either s 380 379 381 refl (at_once s) (one_of s 1 (one_of_two s.classes (one_text s.classes 32) (one_text s.classes 9)) refl refl refl) (tested s 2 (outside_sub s.classes ((10, 10) ∷ (13, 13) ∷ []) rule.newline refl refl refl (outside_choice s.classes ((10, 10) ∷ []) ((13, 13) ∷ []) false false (outside_set s.classes (one_text s.classes 10)) (outside_text s.classes))) refl refl refl) (within s rule.newline refl refl refl (either s 382 381 382 refl (at_once s) (word s 30 refl refl refl) (at_once s) (word s 31 refl refl refl)))))) refl)))) (calls s rule.closing_brace 79 80 at_closing_brace_plain refl refl refl refl refl) refl) (at_once s) (calls s rule.line_doc 197 198 at_line_doc_compound refl refl refl refl refl)
+  grammar_rule_plain = either s 286 287 286 refl (noted s 6 288 refl (outside_seq s.classes ((95, 95) ∷ (97, 122) ∷ (65, 90) ∷ []) true (outside_seq s.classes ((95, 95) ∷ (97, 122) ∷ (65, 90) ∷ []) true (outside_seq s.classes ((95, 95) ∷ (97, 122) ∷ (65, 90) ∷ []) true (outside_seq s.classes ((95, 95) ∷ (97, 122) ∷ (65, 90) ∷ []) true (outside_seq s.classes ((95, 95) ∷ (97, 122) ∷ (65, 90) ∷ []) true (outside_call s.classes ((95, 95) ∷ (97, 122) ∷ (65, 90) ∷ []) false rule.identifier refl refl refl (outside_seq s.classes ((95, 95) ∷ (97, 122) ∷ (65, 90) ∷ []) false (outside_not s.classes ((95, 95) ∷ (97, 122) ∷ (65, 90) ∷ []) (tight_atomic s) (outside_set s.classes (one_of_two s.classes (one_text s.classes 95) (one_called s.classes rule.alpha refl refl refl (one_of_two s.classes (one_range s.classes 97 122) (one_range s.classes 65 90))))))))))))) refl refl refl refl) (tries s 289 291 292 290 refl (seq 293 294 (seq 295 296 (seq 297 298 (seq 299 300 (calls s rule.identifier 151 152 at_identifier_atomic refl refl refl refl refl) (trivia_in_place s (seq 301 301 (many s 302 (op.IsOne 0 302 301) refl (λ c z. z) (tight_between s) refl (inl (tested s 0 (outside_sub s.classes ((32, 32) ∷ (9, 9) ∷ (10, 10) ∷ (13, 13) ∷ []) rule.WHITESPACE refl refl refl (outside_choice s.classes ((32, 32) ∷ (9, 9) ∷ []) ((10, 10) ∷ (13, 13) ∷ []) false false (outside_set s.classes (one_of_two s.classes (one_text s.classes 32) (one_text s.classes 9))) (outside_sub s.classes ((10, 10) ∷ (13, 13) ∷ []) rule.newline refl refl refl (outside_choice s.classes ((10, 10) ∷ []) ((13, 13) ∷ []) false false (outside_set s.classes (one_text s.classes 10)) (outside_text s.classes))))) refl refl refl)) (within s rule.WHITESPACE refl refl refl (either s 303 302 304 refl (at_once s) (one_of s 1 (one_of_two s.classes (one_text s.classes 32) (one_text s.classes 9)) refl refl refl) (tested s 2 (outside_sub s.classes ((10, 10) ∷ (13, 13) ∷ []) rule.newline refl refl refl (outside_choice s.classes ((10, 10) ∷ []) ((13, 13) ∷ []) false false (outside_set s.classes (one_text s.classes 10)) (outside_text s.classes))) refl refl refl) (within s rule.newline refl refl refl (either s 305 304 305 refl (at_once s) (word s 30 refl refl refl) (at_once s) (word s 31 refl refl refl)))))) (between s) (many s 306 (op.IsOne 3 306 300) refl (λ c z. z) (tight_between s) refl (inl (tested s 3 (outside_seq s.classes ((47, 47) ∷ (47, 47) ∷ []) false (outside_sub s.classes ((47, 47) ∷ (47, 47) ∷ []) rule.COMMENT refl refl refl (outside_choice s.classes ((47, 47) ∷ []) ((47, 47) ∷ []) false false (outside_sub s.classes ((47, 47) ∷ []) rule.block_comment refl refl refl (outside_seq s.classes ((47, 47) ∷ []) false (outside_seq s.classes ((47, 47) ∷ []) false (outside_text s.classes)))) (outside_sub s.classes ((47, 47) ∷ []) rule.line_comment refl refl refl (outside_seq s.classes ((47, 47) ∷ []) false (outside_seq s.classes ((47, 47) ∷ []) false (outside_text s.classes))))))) refl refl refl)) (tries s 307 309 309 308 refl (enters s rule.COMMENT 191 192 at_COMMENT_atomic_apart refl refl refl refl refl) (between s) (many s 310 (op.IsOne 0 310 308) refl (λ c z. z) (tight_between s) refl (inl (tested s 0 (outside_sub s.classes ((32, 32) ∷ (9, 9) ∷ (10, 10) ∷ (13, 13) ∷ []) rule.WHITESPACE refl refl refl (outside_choice s.classes ((32, 32) ∷ (9, 9) ∷ []) ((10, 10) ∷ (13, 13) ∷ []) false false (outside_set s.classes (one_of_two s.classes (one_text s.classes 32) (one_text s.classes 9))) (outside_sub s.classes ((10, 10) ∷ (13, 13) ∷ []) rule.newline refl refl refl (outside_choice s.classes ((10, 10) ∷ []) ((13, 13) ∷ []) false false (outside_set s.classes (one_text s.classes 10)) (outside_text s.classes))))) refl refl refl)) (within s rule.WHITESPACE refl refl refl (either s 311 310 312 refl (at_once s) (one_of s 1 (one_of_two s.classes (one_text s.classes 32) (one_text s.classes 9)) refl refl refl) (tested s 2 (outside_sub s.classes ((10, 10) ∷ (13, 13) ∷ []) rule.newline refl refl refl (outside_choice s.classes ((10, 10) ∷ []) ((13, 13) ∷ []) false false (outside_set s.classes (one_text s.classes 10)) (outside_text s.classes))) refl refl refl) (within s rule.newline refl refl refl (either s 313 312 313 refl (at_once s) (word s 30 refl refl refl) (at_once s) (word s 31 refl refl refl)))))) refl)))) (calls s rule.assignment_operator 75 76 at_assignment_operator_plain refl refl refl refl refl)) (trivia_in_place s (seq 314 314 (many s 315 (op.IsOne 0 315 314) refl (λ c z. z) (tight_between s) refl (inl (tested s 0 (outside_sub s.classes ((32, 32) ∷ (9, 9) ∷ (10, 10) ∷ (13, 13) ∷ []) rule.WHITESPACE refl refl refl (outside_choice s.classes ((32, 32) ∷ (9, 9) ∷ []) ((10, 10) ∷ (13, 13) ∷ []) false false (outside_set s.classes (one_of_two s.classes (one_text s.classes 32) (one_text s.classes 9))) (outside_sub s.classes ((10, 10) ∷ (13, 13) ∷ []) rule.newline refl refl refl (outside_choice s.classes ((10, 10) ∷ []) ((13, 13) ∷ []) false false (outside_set s.classes (one_text s.classes 10)) (outside_text s.classes))))) refl refl refl)) (within s rule.WHITESPACE refl refl refl (either s 316 315 317 refl (at_once s) (one_of s 1 (one_of_two s.classes (one_text s.classes 32) (one_text s.classes 9)) refl refl refl) (tested s 2 (outside_sub s.classes ((10, 10) ∷ (13, 13) ∷ []) rule.newline refl refl refl (outside_choice s.classes ((10, 10) ∷ []) ((13, 13) ∷ []) false false (outside_set s.classes (one_text s.classes 10)) (outside_text s.classes))) refl refl refl) (within s rule.newline refl refl refl (either s 318 317 318 refl (at_once s) (word s 30 refl refl refl) (at_once s) (word s 31 refl refl refl)))))) (between s) (many s 319 (op.IsOne 3 319 298) refl (λ c z. z) (tight_between s) refl (inl (tested s 3 (outside_seq s.classes ((47, 47) ∷ (47, 47) ∷ []) false (outside_sub s.classes ((47, 47) ∷ (47, 47) ∷ []) rule.COMMENT refl refl refl (outside_choice s.classes ((47, 47) ∷ []) ((47, 47) ∷ []) false false (outside_sub s.classes ((47, 47) ∷ []) rule.block_comment refl refl refl (outside_seq s.classes ((47, 47) ∷ []) false (outside_seq s.classes ((47, 47) ∷ []) false (outside_text s.classes)))) (outside_sub s.classes ((47, 47) ∷ []) rule.line_comment refl refl refl (outside_seq s.classes ((47, 47) ∷ []) false (outside_seq s.classes ((47, 47) ∷ []) false (outside_text s.classes))))))) refl refl refl)) (tries s 320 322 322 321 refl (enters s rule.COMMENT 191 192 at_COMMENT_atomic_apart refl refl refl refl refl) (between s) (many s 323 (op.IsOne 0 323 321) refl (λ c z. z) (tight_between s) refl (inl (tested s 0 (outside_sub s.classes ((32, 32) ∷ (9, 9) ∷ (10, 10) ∷ (13, 13) ∷ []) rule.WHITESPACE refl refl refl (outside_choice s.classes ((32, 32) ∷ (9, 9) ∷ []) ((10, 10) ∷ (13, 13) ∷ []) false false (outside_set s.classes (one_of_two s.classes (one_text s.classes 32) (one_text s.classes 9))) (outside_sub s.classes ((10, 10) ∷ (13, 13) ∷ []) rule.newline refl refl refl (outside_choice s.classes ((10, 10) ∷ []) ((13, 13) ∷ []) false false (outside_set s.classes (one_text s.classes 10)) (outside_text s.classes))))) refl refl refl)) (within s rule.WHITESPACE refl refl refl (either s 324 323 325 refl (at_once s) (one_of s 1 (one_of_two s.classes (one_text s.classes 32) (one_text s.classes 9)) refl refl refl) (tested s 2 (outside_sub s.classes ((10, 10) ∷ (13, 13) ∷ []) rule.newline refl refl refl (outside_choice s.classes ((10, 10) ∷ []) ((13, 13) ∷ []) false false (outside_set s.classes (one_text s.classes 10)) (outside_text s.classes))) refl refl refl) (within s rule.newline refl refl refl (either s 326 325 326 refl (at_once s) (word s 30 refl refl refl) (at_once s) (word s 31 refl refl refl)))))) refl)))) (maybe s 327 refl (noted s 7 328 refl (outside_silent s.classes ((95, 95) ∷ (64, 64) ∷ (36, 36) ∷ (33, 33) ∷ []) rule.modifier refl refl refl (outside_choice s.classes ((95, 95) ∷ (64, 64) ∷ (36, 36) ∷ []) ((33, 33) ∷ []) true true (outside_choice s.classes ((95, 95) ∷ (64, 64) ∷ []) ((36, 36) ∷ []) true true (outside_choice s.classes ((95, 95) ∷ []) ((64, 64) ∷ []) true true (outside_call s.classes ((95, 95) ∷ []) false rule.silent_modifier refl refl refl (outside_set s.classes (one_text s.classes 95))) (outside_call s.classes ((64, 64) ∷ []) false rule.atomic_modifier refl refl refl (outside_set s.classes (one_text s.classes 64)))) (outside_call s.classes ((36, 36) ∷ []) false rule.compound_atomic_modifier refl refl refl (outside_set s.classes (one_text s.classes 36)))) (outside_call s.classes ((33, 33) ∷ []) false rule.non_atomic_modifier refl refl refl (outside_set s.classes (one_text s.classes 33))))) refl refl refl refl) (within s rule.modifier refl refl refl (either s 329 330 342 refl (noted s 8 331 refl (outside_choice s.classes ((95, 95) ∷ (64, 64) ∷ []) ((36, 36) ∷ []) true true (outside_choice s.classes ((95, 95) ∷ []) ((64, 64) ∷ []) true true (outside_call s.classes ((95, 95) ∷ []) false rule.silent_modifier refl refl refl (outside_set s.classes (one_text s.classes 95))) (outside_call s.classes ((64, 64) ∷ []) false rule.atomic_modifier refl refl refl (outside_set s.classes (one_text s.classes 64)))) (outside_call s.classes ((36, 36) ∷ []) false rule.compound_atomic_modifier refl refl refl (outside_set s.classes (one_text s.classes 36)))) refl refl refl refl) (either s 332 333 340 refl (noted s 9 334 refl (outside_choice s.classes ((95, 95) ∷ []) ((64, 64) ∷ []) true true (outside_call s.classes ((95, 95) ∷ []) false rule.silent_modifier refl refl refl (outside_set s.classes (one_text s.classes 95))) (outside_call s.classes ((64, 64) ∷ []) false rule.atomic_modifier refl refl refl (outside_set s.classes (one_text s.classes 64)))) refl refl refl refl) (either s 335 336 338 refl (noted s 10 337 refl (outside_call s.classes ((95, 95) ∷ []) false rule.silent_modifier refl refl refl (outside_set s.classes (one_text s.classes 95))) refl refl refl refl) (calls s rule.silent_modifier 91 92 at_silent_modifier_plain refl refl refl refl refl) (noted s 11 339 refl (outside_call s.classes ((64, 64) ∷ []) false rule.atomic_modifier refl refl refl (outside_set s.classes (one_text s.classes 64))) refl refl refl refl) (calls s rule.atomic_modifier 93 94 at_atomic_modifier_plain refl refl refl refl refl)) (noted s 12 341 refl (outside_call s.classes ((36, 36) ∷ []) false rule.compound_atomic_modifier refl refl refl (outside_set s.classes (one_text s.classes 36))) refl refl refl refl) (calls s rule.compound_atomic_modifier 95 96 at_compound_atomic_modifier_plain refl refl refl refl refl)) (noted s 13 343 refl (outside_call s.classes ((33, 33) ∷ []) false rule.non_atomic_modifier refl refl refl (outside_set s.classes (one_text s.classes 33))) refl refl refl refl) (calls s rule.non_atomic_modifier 97 98 at_non_atomic_modifier_plain refl refl refl refl refl))))) (trivia_in_place s (seq 344 344 (many s 345 (op.IsOne 0 345 344) refl (λ c z. z) (tight_between s) refl (inl (tested s 0 (outside_sub s.classes ((32, 32) ∷ (9, 9) ∷ (10, 10) ∷ (13, 13) ∷ []) rule.WHITESPACE refl refl refl (outside_choice s.classes ((32, 32) ∷ (9, 9) ∷ []) ((10, 10) ∷ (13, 13) ∷ []) false false (outside_set s.classes (one_of_two s.classes (one_text s.classes 32) (one_text s.classes 9))) (outside_sub s.classes ((10, 10) ∷ (13, 13) ∷ []) rule.newline refl refl refl (outside_choice s.classes ((10, 10) ∷ []) ((13, 13) ∷ []) false false (outside_set s.classes (one_text s.classes 10)) (outside_text s.classes))))) refl refl refl)) (within s rule.WHITESPACE refl refl refl (either s 346 345 347 refl (at_once s) (one_of s 1 (one_of_two s.classes (one_text s.classes 32) (one_text s.classes 9)) refl refl refl) (tested s 2 (outside_sub s.classes ((10, 10) ∷ (13, 13) ∷ []) rule.newline refl refl refl (outside_choice s.classes ((10, 10) ∷ []) ((13, 13) ∷ []) false false (outside_set s.classes (one_text s.classes 10)) (outside_text s.classes))) refl refl refl) (within s rule.newline refl refl refl (either s 348 347 348 refl (at_once s) (word s 30 refl refl refl) (at_once s) (word s 31 refl refl refl)))))) (between s) (many s 349 (op.IsOne 3 349 296) refl (λ c z. z) (tight_between s) refl (inl (tested s 3 (outside_seq s.classes ((47, 47) ∷ (47, 47) ∷ []) false (outside_sub s.classes ((47, 47) ∷ (47, 47) ∷ []) rule.COMMENT refl refl refl (outside_choice s.classes ((47, 47) ∷ []) ((47, 47) ∷ []) false false (outside_sub s.classes ((47, 47) ∷ []) rule.block_comment refl refl refl (outside_seq s.classes ((47, 47) ∷ []) false (outside_seq s.classes ((47, 47) ∷ []) false (outside_text s.classes)))) (outside_sub s.classes ((47, 47) ∷ []) rule.line_comment refl refl refl (outside_seq s.classes ((47, 47) ∷ []) false (outside_seq s.classes ((47, 47) ∷ []) false (outside_text s.classes))))))) refl refl refl)) (tries s 350 352 352 351 refl (enters s rule.COMMENT 191 192 at_COMMENT_atomic_apart refl refl refl refl refl) (between s) (many s 353 (op.IsOne 0 353 351) refl (λ c z. z) (tight_between s) refl (inl (tested s 0 (outside_sub s.classes ((32, 32) ∷ (9, 9) ∷ (10, 10) ∷ (13, 13) ∷ []) rule.WHITESPACE refl refl refl (outside_choice s.classes ((32, 32) ∷ (9, 9) ∷ []) ((10, 10) ∷ (13, 13) ∷ []) false false (outside_set s.classes (one_of_two s.classes (one_text s.classes 32) (one_text s.classes 9))) (outside_sub s.classes ((10, 10) ∷ (13, 13) ∷ []) rule.newline refl refl refl (outside_choice s.classes ((10, 10) ∷ []) ((13, 13) ∷ []) false false (outside_set s.classes (one_text s.classes 10)) (outside_text s.classes))))) refl refl refl)) (within s rule.WHITESPACE refl refl refl (either s 354 353 355 refl (at_once s) (one_of s 1 (one_of_two s.classes (one_text s.classes 32) (one_text s.classes 9)) refl refl refl) (tested s 2 (outside_sub s.classes ((10, 10) ∷ (13, 13) ∷ []) rule.newline refl refl refl (outside_choice s.classes ((10, 10) ∷ []) ((13, 13) ∷ []) false false (outside_set s.classes (one_text s.classes 10)) (outside_text s.classes))) refl refl refl) (within s rule.newline refl refl refl (either s 356 355 356 refl (at_once s) (word s 30 refl refl refl) (at_once s) (word s 31 refl refl refl)))))) refl)))) (calls s rule.opening_brace 77 78 at_opening_brace_plain refl refl refl refl refl)) (trivia_in_place s (seq 357 357 (many s 358 (op.IsOne 0 358 357) refl (λ c z. z) (tight_between s) refl (inl (tested s 0 (outside_sub s.classes ((32, 32) ∷ (9, 9) ∷ (10, 10) ∷ (13, 13) ∷ []) rule.WHITESPACE refl refl refl (outside_choice s.classes ((32, 32) ∷ (9, 9) ∷ []) ((10, 10) ∷ (13, 13) ∷ []) false false (outside_set s.classes (one_of_two s.classes (one_text s.classes 32) (one_text s.classes 9))) (outside_sub s.classes ((10, 10) ∷ (13, 13) ∷ []) rule.newline refl refl refl (outside_choice s.classes ((10, 10) ∷ []) ((13, 13) ∷ []) false false (outside_set s.classes (one_text s.classes 10)) (outside_text s.classes))))) refl refl refl)) (within s rule.WHITESPACE refl refl refl (either s 359 358 360 refl (at_once s) (one_of s 1 (one_of_two s.classes (one_text s.classes 32) (one_text s.classes 9)) refl refl refl) (tested s 2 (outside_sub s.classes ((10, 10) ∷ (13, 13) ∷ []) rule.newline refl refl refl (outside_choice s.classes ((10, 10) ∷ []) ((13, 13) ∷ []) false false (outside_set s.classes (one_text s.classes 10)) (outside_text s.classes))) refl refl refl) (within s rule.newline refl refl refl (either s 361 360 361 refl (at_once s) (word s 30 refl refl refl) (at_once s) (word s 31 refl refl refl)))))) (between s) (many s 362 (op.IsOne 3 362 294) refl (λ c z. z) (tight_between s) refl (inl (tested s 3 (outside_seq s.classes ((47, 47) ∷ (47, 47) ∷ []) false (outside_sub s.classes ((47, 47) ∷ (47, 47) ∷ []) rule.COMMENT refl refl refl (outside_choice s.classes ((47, 47) ∷ []) ((47, 47) ∷ []) false false (outside_sub s.classes ((47, 47) ∷ []) rule.block_comment refl refl refl (outside_seq s.classes ((47, 47) ∷ []) false (outside_seq s.classes ((47, 47) ∷ []) false (outside_text s.classes)))) (outside_sub s.classes ((47, 47) ∷ []) rule.line_comment refl refl refl (outside_seq s.classes ((47, 47) ∷ []) false (outside_seq s.classes ((47, 47) ∷ []) false (outside_text s.classes))))))) refl refl refl)) (tries s 363 365 365 364 refl (enters s rule.COMMENT 191 192 at_COMMENT_atomic_apart refl refl refl refl refl) (between s) (many s 366 (op.IsOne 0 366 364) refl (λ c z. z) (tight_between s) refl (inl (tested s 0 (outside_sub s.classes ((32, 32) ∷ (9, 9) ∷ (10, 10) ∷ (13, 13) ∷ []) rule.WHITESPACE refl refl refl (outside_choice s.classes ((32, 32) ∷ (9, 9) ∷ []) ((10, 10) ∷ (13, 13) ∷ []) false false (outside_set s.classes (one_of_two s.classes (one_text s.classes 32) (one_text s.classes 9))) (outside_sub s.classes ((10, 10) ∷ (13, 13) ∷ []) rule.newline refl refl refl (outside_choice s.classes ((10, 10) ∷ []) ((13, 13) ∷ []) false false (outside_set s.classes (one_text s.classes 10)) (outside_text s.classes))))) refl refl refl)) (within s rule.WHITESPACE refl refl refl (either s 367 366 368 refl (at_once s) (one_of s 1 (one_of_two s.classes (one_text s.classes 32) (one_text s.classes 9)) refl refl refl) (tested s 2 (outside_sub s.classes ((10, 10) ∷ (13, 13) ∷ []) rule.newline refl refl refl (outside_choice s.classes ((10, 10) ∷ []) ((13, 13) ∷ []) false false (outside_set s.classes (one_text s.classes 10)) (outside_text s.classes))) refl refl refl) (within s rule.newline refl refl refl (either s 369 368 369 refl (at_once s) (word s 30 refl refl refl) (at_once s) (word s 31 refl refl refl)))))) refl)))) (calls s rule.expression 103 104 at_expression_plain refl refl refl refl refl)) (trivia_in_place s (seq 370 370 (many s 371 (op.IsOne 0 371 370) refl (λ c z. z) (tight_between s) refl (inl (tested s 0 (outside_sub s.classes ((32, 32) ∷ (9, 9) ∷ (10, 10) ∷ (13, 13) ∷ []) rule.WHITESPACE refl refl refl (outside_choice s.classes ((32, 32) ∷ (9, 9) ∷ []) ((10, 10) ∷ (13, 13) ∷ []) false false (outside_set s.classes (one_of_two s.classes (one_text s.classes 32) (one_text s.classes 9))) (outside_sub s.classes ((10, 10) ∷ (13, 13) ∷ []) rule.newline refl refl refl (outside_choice s.classes ((10, 10) ∷ []) ((13, 13) ∷ []) false false (outside_set s.classes (one_text s.classes 10)) (outside_text s.classes))))) refl refl refl)) (within s rule.WHITESPACE refl refl refl (either s 372 371 373 refl (at_once s) (one_of s 1 (one_of_two s.classes (one_text s.classes 32) (one_text s.classes 9)) refl refl refl) (tested s 2 (outside_sub s.classes ((10, 10) ∷ (13, 13) ∷ []) rule.newline refl refl refl (outside_choice s.classes ((10, 10) ∷ []) ((13, 13) ∷ []) false false (outside_set s.classes (one_text s.classes 10)) (outside_text s.classes))) refl refl refl) (within s rule.newline refl refl refl (either s 374 373 374 refl (at_once s) (word s 30 refl refl refl) (at_once s) (word s 31 refl refl refl)))))) (between s) (many s 375 (op.IsOne 3 375 292) refl (λ c z. z) (tight_between s) refl (inl (tested s 3 (outside_seq s.classes ((47, 47) ∷ (47, 47) ∷ []) false (outside_sub s.classes ((47, 47) ∷ (47, 47) ∷ []) rule.COMMENT refl refl refl (outside_choice s.classes ((47, 47) ∷ []) ((47, 47) ∷ []) false false (outside_sub s.classes ((47, 47) ∷ []) rule.block_comment refl refl refl (outside_seq s.classes ((47, 47) ∷ []) false (outside_seq s.classes ((47, 47) ∷ []) false (outside_text s.classes)))) (outside_sub s.classes ((47, 47) ∷ []) rule.line_comment refl refl refl (outside_seq s.classes ((47, 47) ∷ []) false (outside_seq s.classes ((47, 47) ∷ []) false (outside_text s.classes))))))) refl refl refl)) (tries s 376 378 378 377 refl (enters s rule.COMMENT 191 192 at_COMMENT_atomic_apart refl refl refl refl refl) (between s) (many s 379 (op.IsOne 0 379 377) refl (λ c z. z) (tight_between s) refl (inl (tested s 0 (outside_sub s.classes ((32, 32) ∷ (9, 9) ∷ (10, 10) ∷ (13, 13) ∷ []) rule.WHITESPACE refl refl refl (outside_choice s.classes ((32, 32) ∷ (9, 9) ∷ []) ((10, 10) ∷ (13, 13) ∷ []) false false (outside_set s.classes (one_of_two s.classes (one_text s.classes 32) (one_text s.classes 9))) (outside_sub s.classes ((10, 10) ∷ (13, 13) ∷ []) rule.newline refl refl refl (outside_choice s.classes ((10, 10) ∷ []) ((13, 13) ∷ []) false false (outside_set s.classes (one_text s.classes 10)) (outside_text s.classes))))) refl refl refl)) (within s rule.WHITESPACE refl refl refl (either s 380 379 381 refl (at_once s) (one_of s 1 (one_of_two s.classes (one_text s.classes 32) (one_text s.classes 9)) refl refl refl) (tested s 2 (outside_sub s.classes ((10, 10) ∷ (13, 13) ∷ []) rule.newline refl refl refl (outside_choice s.classes ((10, 10) ∷ []) ((13, 13) ∷ []) false false (outside_set s.classes (one_text s.classes 10)) (outside_text s.classes))) refl refl refl) (within s rule.newline refl refl refl (either s 382 381 382 refl (at_once s) (word s 30 refl refl refl) (at_once s) (word s 31 refl refl refl)))))) refl)))) (calls s rule.closing_brace 79 80 at_closing_brace_plain refl refl refl refl refl) refl) (at_once s) (calls s rule.line_doc 197 198 at_line_doc_compound refl refl refl refl refl)
 
   assignment_operator_plain : Laid s (Run NonAtomicMode (body_of rule.assignment_operator)) 75 76 0
   unfolding whitespace comment
@@ -789,19 +789,19 @@ module _ (classes : Classes) (code : CodeLists) (is : IsFastCode code) where
 
   node_tag_plain_apart : Laid s (Run NonAtomicMode (body_of rule.node_tag)) 101 102 0
   unfolding whitespace comment
-  node_tag_plain_apart = seq 398 399 (calls s rule.tag_id 99 100 at_tag_id_atomic refl refl refl refl refl) (gap_in_place s (seq 400 400 (many s 401 (op.IsOne 0 401 400) refl (λ c z. z) (tight_between s) refl (inl (tested s 0 (outside_sub s.classes ((32, 32) ∷ (9, 9) ∷ (10, 10) ∷ (13, 13) ∷ []) rule.WHITESPACE refl refl refl (outside_choice s.classes ((32, 32) ∷ (9, 9) ∷ []) ((10, 10) ∷ (13, 13) ∷ []) false false (outside_set s.classes (one_of_two s.classes (one_text s.classes 32) (one_text s.classes 9))) (outside_sub s.classes ((10, 10) ∷ (13, 13) ∷ []) rule.newline refl refl refl (outside_choice s.classes ((10, 10) ∷ []) ((13, 13) ∷ []) false false (outside_set s.classes (one_text s.classes 10)) (outside_text s.classes))))) refl refl refl)) (within s rule.WHITESPACE refl refl refl (either s 402 401 403 refl (at_once s) (one_of s 1 (one_of_two s.classes (one_text s.classes 32) (one_text s.classes 9)) refl refl refl) (tested s 2 (outside_sub s.classes ((10, 10) ∷ (13, 13) ∷ []) rule.newline refl refl refl (outside_choice s.classes ((10, 10) ∷ []) ((13, 13) ∷ []) false false (outside_set s.classes (one_text s.classes 10)) (outside_text s.classes))) refl refl refl) (within s rule.newline refl refl refl (either s 404 403 404 refl (at_once s) (word s 30 refl refl refl) (at_once s) (word s 31 refl refl refl)))))) (between s) (many s 405 (op.IsOne 3 405 399) refl (λ c z. z) (tight_between s) refl (inl (tested s 3 (outside_seq s.classes ((47, 47) ∷ (47, 47) ∷ []) false (outside_sub s.classes ((47, 47) ∷ (47, 47) ∷ []) rule.COMMENT refl refl refl (outside_choice s.classes ((47, 47) ∷ []) ((47, 47) ∷ []) false false (outside_sub s.classes ((47, 47) ∷ []) rule.block_comment refl refl refl (outside_seq s.classes ((47, 47) ∷ []) false (outside_seq s.classes ((47, 47) ∷ []) false (outside_text s.classes)))) (outside_sub s.classes ((47, 47) ∷ []) rule.line_comment refl refl refl (outside_seq s.classes ((47, 47) ∷ []) false (outside_seq s.classes ((47, 47) ∷ []) false (outside_text s.classes))))))) refl refl refl)) (tries s 406 408 408 407 refl (enters s rule.COMMENT 191 192 at_COMMENT_atomic_apart refl refl refl refl refl) (between s) (many s 409 (op.IsOne 0 409 407) refl (λ c z. z) (tight_between s) refl (inl (tested s 0 (outside_sub s.classes ((32, 32) ∷ (9, 9) ∷ (10, 10) ∷ (13, 13) ∷ []) rule.WHITESPACE refl refl refl (outside_choice s.classes ((32, 32) ∷ (9, 9) ∷ []) ((10, 10) ∷ (13, 13) ∷ []) false false (outside_set s.classes (one_of_two s.classes (one_text s.classes 32) (one_text s.classes 9))) (outside_sub s.classes ((10, 10) ∷ (13, 13) ∷ []) rule.newline refl refl refl (outside_choice s.classes ((10, 10) ∷ []) ((13, 13) ∷ []) false false (outside_set s.classes (one_text s.classes 10)) (outside_text s.classes))))) refl refl refl)) (within s rule.WHITESPACE refl refl refl (either s 410 409 411 refl (at_once s) (one_of s 1 (one_of_two s.classes (one_text s.classes 32) (one_text s.classes 9)) refl refl refl) (tested s 2 (outside_sub s.classes ((10, 10) ∷ (13, 13) ∷ []) rule.newline refl refl refl (outside_choice s.classes ((10, 10) ∷ []) ((13, 13) ∷ []) false false (outside_set s.classes (one_text s.classes 10)) (outside_text s.classes))) refl refl refl) (within s rule.newline refl refl refl (either s 412 411 412 refl (at_once s) (word s 30 refl refl refl) (at_once s) (word s 31 refl refl refl)))))) refl)))) (calls s rule.assignment_operator 75 76 at_assignment_operator_plain refl refl refl refl refl)
+  node_tag_plain_apart = seq 398 399 (calls s rule.tag_id 99 100 at_tag_id_atomic refl refl refl refl refl) (trivia_in_place s (seq 400 400 (many s 401 (op.IsOne 0 401 400) refl (λ c z. z) (tight_between s) refl (inl (tested s 0 (outside_sub s.classes ((32, 32) ∷ (9, 9) ∷ (10, 10) ∷ (13, 13) ∷ []) rule.WHITESPACE refl refl refl (outside_choice s.classes ((32, 32) ∷ (9, 9) ∷ []) ((10, 10) ∷ (13, 13) ∷ []) false false (outside_set s.classes (one_of_two s.classes (one_text s.classes 32) (one_text s.classes 9))) (outside_sub s.classes ((10, 10) ∷ (13, 13) ∷ []) rule.newline refl refl refl (outside_choice s.classes ((10, 10) ∷ []) ((13, 13) ∷ []) false false (outside_set s.classes (one_text s.classes 10)) (outside_text s.classes))))) refl refl refl)) (within s rule.WHITESPACE refl refl refl (either s 402 401 403 refl (at_once s) (one_of s 1 (one_of_two s.classes (one_text s.classes 32) (one_text s.classes 9)) refl refl refl) (tested s 2 (outside_sub s.classes ((10, 10) ∷ (13, 13) ∷ []) rule.newline refl refl refl (outside_choice s.classes ((10, 10) ∷ []) ((13, 13) ∷ []) false false (outside_set s.classes (one_text s.classes 10)) (outside_text s.classes))) refl refl refl) (within s rule.newline refl refl refl (either s 404 403 404 refl (at_once s) (word s 30 refl refl refl) (at_once s) (word s 31 refl refl refl)))))) (between s) (many s 405 (op.IsOne 3 405 399) refl (λ c z. z) (tight_between s) refl (inl (tested s 3 (outside_seq s.classes ((47, 47) ∷ (47, 47) ∷ []) false (outside_sub s.classes ((47, 47) ∷ (47, 47) ∷ []) rule.COMMENT refl refl refl (outside_choice s.classes ((47, 47) ∷ []) ((47, 47) ∷ []) false false (outside_sub s.classes ((47, 47) ∷ []) rule.block_comment refl refl refl (outside_seq s.classes ((47, 47) ∷ []) false (outside_seq s.classes ((47, 47) ∷ []) false (outside_text s.classes)))) (outside_sub s.classes ((47, 47) ∷ []) rule.line_comment refl refl refl (outside_seq s.classes ((47, 47) ∷ []) false (outside_seq s.classes ((47, 47) ∷ []) false (outside_text s.classes))))))) refl refl refl)) (tries s 406 408 408 407 refl (enters s rule.COMMENT 191 192 at_COMMENT_atomic_apart refl refl refl refl refl) (between s) (many s 409 (op.IsOne 0 409 407) refl (λ c z. z) (tight_between s) refl (inl (tested s 0 (outside_sub s.classes ((32, 32) ∷ (9, 9) ∷ (10, 10) ∷ (13, 13) ∷ []) rule.WHITESPACE refl refl refl (outside_choice s.classes ((32, 32) ∷ (9, 9) ∷ []) ((10, 10) ∷ (13, 13) ∷ []) false false (outside_set s.classes (one_of_two s.classes (one_text s.classes 32) (one_text s.classes 9))) (outside_sub s.classes ((10, 10) ∷ (13, 13) ∷ []) rule.newline refl refl refl (outside_choice s.classes ((10, 10) ∷ []) ((13, 13) ∷ []) false false (outside_set s.classes (one_text s.classes 10)) (outside_text s.classes))))) refl refl refl)) (within s rule.WHITESPACE refl refl refl (either s 410 409 411 refl (at_once s) (one_of s 1 (one_of_two s.classes (one_text s.classes 32) (one_text s.classes 9)) refl refl refl) (tested s 2 (outside_sub s.classes ((10, 10) ∷ (13, 13) ∷ []) rule.newline refl refl refl (outside_choice s.classes ((10, 10) ∷ []) ((13, 13) ∷ []) false false (outside_set s.classes (one_text s.classes 10)) (outside_text s.classes))) refl refl refl) (within s rule.newline refl refl refl (either s 412 411 412 refl (at_once s) (word s 30 refl refl refl) (at_once s) (word s 31 refl refl refl)))))) refl)))) (calls s rule.assignment_operator 75 76 at_assignment_operator_plain refl refl refl refl refl)
 
   expression_plain : Laid s (Run NonAtomicMode (body_of rule.expression)) 103 104 0
   unfolding whitespace comment
-  expression_plain = seq 413 414 (seq 415 416 (maybe s 417 refl (noted s 15 418 refl (outside_call s.classes ((124, 124) ∷ []) false rule.choice_operator refl refl refl (outside_set s.classes (one_text s.classes 124))) refl refl refl refl) (calls s rule.choice_operator 123 124 at_choice_operator_plain refl refl refl refl refl)) (gap_in_place s (seq 419 419 (many s 420 (op.IsOne 0 420 419) refl (λ c z. z) (tight_between s) refl (inl (tested s 0 (outside_sub s.classes ((32, 32) ∷ (9, 9) ∷ (10, 10) ∷ (13, 13) ∷ []) rule.WHITESPACE refl refl refl (outside_choice s.classes ((32, 32) ∷ (9, 9) ∷ []) ((10, 10) ∷ (13, 13) ∷ []) false false (outside_set s.classes (one_of_two s.classes (one_text s.classes 32) (one_text s.classes 9))) (outside_sub s.classes ((10, 10) ∷ (13, 13) ∷ []) rule.newline refl refl refl (outside_choice s.classes ((10, 10) ∷ []) ((13, 13) ∷ []) false false (outside_set s.classes (one_text s.classes 10)) (outside_text s.classes))))) refl refl refl)) (within s rule.WHITESPACE refl refl refl (either s 421 420 422 refl (at_once s) (one_of s 1 (one_of_two s.classes (one_text s.classes 32) (one_text s.classes 9)) refl refl refl) (tested s 2 (outside_sub s.classes ((10, 10) ∷ (13, 13) ∷ []) rule.newline refl refl refl (outside_choice s.classes ((10, 10) ∷ []) ((13, 13) ∷ []) false false (outside_set s.classes (one_text s.classes 10)) (outside_text s.classes))) refl refl refl) (within s rule.newline refl refl refl (either s 423 422 423 refl (at_once s) (word s 30 refl refl refl) (at_once s) (word s 31 refl refl refl)))))) (between s) (many s 424 (op.IsOne 3 424 416) refl (λ c z. z) (tight_between s) refl (inl (tested s 3 (outside_seq s.classes ((47, 47) ∷ (47, 47) ∷ []) false (outside_sub s.classes ((47, 47) ∷ (47, 47) ∷ []) rule.COMMENT refl refl refl (outside_choice s.classes ((47, 47) ∷ []) ((47, 47) ∷ []) false false (outside_sub s.classes ((47, 47) ∷ []) rule.block_comment refl refl refl (outside_seq s.classes ((47, 47) ∷ []) false (outside_seq s.classes ((47, 47) ∷ []) false (outside_text s.classes)))) (outside_sub s.classes ((47, 47) ∷ []) rule.line_comment refl refl refl (outside_seq s.classes ((47, 47) ∷ []) false (outside_seq s.classes ((47, 47) ∷ []) false (outside_text s.classes))))))) refl refl refl)) (tries s 425 427 427 426 refl (enters s rule.COMMENT 191 192 at_COMMENT_atomic_apart refl refl refl refl refl) (between s) (many s 428 (op.IsOne 0 428 426) refl (λ c z. z) (tight_between s) refl (inl (tested s 0 (outside_sub s.classes ((32, 32) ∷ (9, 9) ∷ (10, 10) ∷ (13, 13) ∷ []) rule.WHITESPACE refl refl refl (outside_choice s.classes ((32, 32) ∷ (9, 9) ∷ []) ((10, 10) ∷ (13, 13) ∷ []) false false (outside_set s.classes (one_of_two s.classes (one_text s.classes 32) (one_text s.classes 9))) (outside_sub s.classes ((10, 10) ∷ (13, 13) ∷ []) rule.newline refl refl refl (outside_choice s.classes ((10, 10) ∷ []) ((13, 13) ∷ []) false false (outside_set s.classes (one_text s.classes 10)) (outside_text s.classes))))) refl refl refl)) (within s rule.WHITESPACE refl refl refl (either s 429 428 430 refl (at_once s) (one_of s 1 (one_of_two s.classes (one_text s.classes 32) (one_text s.classes 9)) refl refl refl) (tested s 2 (outside_sub s.classes ((10, 10) ∷ (13, 13) ∷ []) rule.newline refl refl refl (outside_choice s.classes ((10, 10) ∷ []) ((13, 13) ∷ []) false false (outside_set s.classes (one_text s.classes 10)) (outside_text s.classes))) refl refl refl) (within s rule.newline refl refl refl (either s 431 430 431 refl (at_once s) (word s 30 refl refl refl) (at_once s) (word s 31 refl refl refl)))))) refl)))) (calls s rule.term 105 106 at_term_plain refl refl refl refl refl)) (gap_in_place s (seq 432 432 (many s 433 (op.IsOne 0 433 432) refl (λ c z. z) (tight_between s) refl (inl (tested s 0 (outside_sub s.classes ((32, 32) ∷ (9, 9) ∷ (10, 10) ∷ (13, 13) ∷ []) rule.WHITESPACE refl refl refl (outside_choice s.classes ((32, 32) ∷ (9, 9) ∷ []) ((10, 10) ∷ (13, 13) ∷ []) false false (outside_set s.classes (one_of_two s.classes (one_text s.classes 32) (one_text s.classes 9))) (outside_sub s.classes ((10, 10) ∷ (13, 13) ∷ []) rule.newline refl refl refl (outside_choice s.classes ((10, 10) ∷ []) ((13, 13) ∷ []) false false (outside_set s.classes (one_text s.classes 10)) (outside_text s.classes))))) refl refl refl)) (within s rule.WHITESPACE refl refl refl (either s 434 433 435 refl (at_once s) (one_of s 1 (one_of_two s.classes (one_text s.classes 32) (one_text s.classes 9)) refl refl refl) (tested s 2 (outside_sub s.classes ((10, 10) ∷ (13, 13) ∷ []) rule.newline refl refl refl (outside_choice s.classes ((10, 10) ∷ []) ((13, 13) ∷ []) false false (outside_set s.classes (one_text s.classes 10)) (outside_text s.classes))) refl refl refl) (within s rule.newline refl refl refl (either s 436 435 436 refl (at_once s) (word s 30 refl refl refl) (at_once s) (word s 31 refl refl refl)))))) (between s) (many s 437 (op.IsOne 3 437 414) refl (λ c z. z) (tight_between s) refl (inl (tested s 3 (outside_seq s.classes ((47, 47) ∷ (47, 47) ∷ []) false (outside_sub s.classes ((47, 47) ∷ (47, 47) ∷ []) rule.COMMENT refl refl refl (outside_choice s.classes ((47, 47) ∷ []) ((47, 47) ∷ []) false false (outside_sub s.classes ((47, 47) ∷ []) rule.block_comment refl refl refl (outside_seq s.classes ((47, 47) ∷ []) false (outside_seq s.classes ((47, 47) ∷ []) false (outside_text s.classes)))) (outside_sub s.classes ((47, 47) ∷ []) rule.line_comment refl refl refl (outside_seq s.classes ((47, 47) ∷ []) false (outside_seq s.classes ((47, 47) ∷ []) false (outside_text s.classes))))))) refl refl refl)) (tries s 438 440 440 439 refl (enters s rule.COMMENT 191 192 at_COMMENT_atomic_apart refl refl refl refl refl) (between s) (many s 441 (op.IsOne 0 441 439) refl (λ c z. z) (tight_between s) refl (inl (tested s 0 (outside_sub s.classes ((32, 32) ∷ (9, 9) ∷ (10, 10) ∷ (13, 13) ∷ []) rule.WHITESPACE refl refl refl (outside_choice s.classes ((32, 32) ∷ (9, 9) ∷ []) ((10, 10) ∷ (13, 13) ∷ []) false false (outside_set s.classes (one_of_two s.classes (one_text s.classes 32) (one_text s.classes 9))) (outside_sub s.classes ((10, 10) ∷ (13, 13) ∷ []) rule.newline refl refl refl (outside_choice s.classes ((10, 10) ∷ []) ((13, 13) ∷ []) false false (outside_set s.classes (one_text s.classes 10)) (outside_text s.classes))))) refl refl refl)) (within s rule.WHITESPACE refl refl refl (either s 442 441 443 refl (at_once s) (one_of s 1 (one_of_two s.classes (one_text s.classes 32) (one_text s.classes 9)) refl refl refl) (tested s 2 (outside_sub s.classes ((10, 10) ∷ (13, 13) ∷ []) rule.newline refl refl refl (outside_choice s.classes ((10, 10) ∷ []) ((13, 13) ∷ []) false false (outside_set s.classes (one_text s.classes 10)) (outside_text s.classes))) refl refl refl) (within s rule.newline refl refl refl (either s 444 443 444 refl (at_once s) (word s 30 refl refl refl) (at_once s) (word s 31 refl refl refl)))))) refl)))) (turns s 445 447 448 449 450 refl (noted s 16 446 refl (outside_seq s.classes ((126, 126) ∷ (124, 124) ∷ []) true (outside_silent s.classes ((126, 126) ∷ (124, 124) ∷ []) rule.infix_operator refl refl refl (outside_choice s.classes ((126, 126) ∷ []) ((124, 124) ∷ []) true true (outside_call s.classes ((126, 126) ∷ []) false rule.sequence_operator refl refl refl (outside_set s.classes (one_text s.classes 126))) (outside_call s.classes ((124, 124) ∷ []) false rule.choice_operator refl refl refl (outside_set s.classes (one_text s.classes 124)))))) refl refl refl refl) refl refl (gap_in_place s (seq 451 451 (many s 452 (op.IsOne 0 452 451) refl (λ c z. z) (tight_between s) refl (inl (tested s 0 (outside_sub s.classes ((32, 32) ∷ (9, 9) ∷ (10, 10) ∷ (13, 13) ∷ []) rule.WHITESPACE refl refl refl (outside_choice s.classes ((32, 32) ∷ (9, 9) ∷ []) ((10, 10) ∷ (13, 13) ∷ []) false false (outside_set s.classes (one_of_two s.classes (one_text s.classes 32) (one_text s.classes 9))) (outside_sub s.classes ((10, 10) ∷ (13, 13) ∷ []) rule.newline refl refl refl (outside_choice s.classes ((10, 10) ∷ []) ((13, 13) ∷ []) false false (outside_set s.classes (one_text s.classes 10)) (outside_text s.classes))))) refl refl refl)) (within s rule.WHITESPACE refl refl refl (either s 453 452 454 refl (at_once s) (one_of s 1 (one_of_two s.classes (one_text s.classes 32) (one_text s.classes 9)) refl refl refl) (tested s 2 (outside_sub s.classes ((10, 10) ∷ (13, 13) ∷ []) rule.newline refl refl refl (outside_choice s.classes ((10, 10) ∷ []) ((13, 13) ∷ []) false false (outside_set s.classes (one_text s.classes 10)) (outside_text s.classes))) refl refl refl) (within s rule.newline refl refl refl (either s 455 454 455 refl (at_once s) (word s 30 refl refl refl) (at_once s) (word s 31 refl refl refl)))))) (between s) (many s 456 (op.IsOne 3 456 449) refl (λ c z. z) (tight_between s) refl (inl (tested s 3 (outside_seq s.classes ((47, 47) ∷ (47, 47) ∷ []) false (outside_sub s.classes ((47, 47) ∷ (47, 47) ∷ []) rule.COMMENT refl refl refl (outside_choice s.classes ((47, 47) ∷ []) ((47, 47) ∷ []) false false (outside_sub s.classes ((47, 47) ∷ []) rule.block_comment refl refl refl (outside_seq s.classes ((47, 47) ∷ []) false (outside_seq s.classes ((47, 47) ∷ []) false (outside_text s.classes)))) (outside_sub s.classes ((47, 47) ∷ []) rule.line_comment refl refl refl (outside_seq s.classes ((47, 47) ∷ []) false (outside_seq s.classes ((47, 47) ∷ []) false (outside_text s.classes))))))) refl refl refl)) (tries s 457 459 459 458 refl (enters s rule.COMMENT 191 192 at_COMMENT_atomic_apart refl refl refl refl refl) (between s) (many s 460 (op.IsOne 0 460 458) refl (λ c z. z) (tight_between s) refl (inl (tested s 0 (outside_sub s.classes ((32, 32) ∷ (9, 9) ∷ (10, 10) ∷ (13, 13) ∷ []) rule.WHITESPACE refl refl refl (outside_choice s.classes ((32, 32) ∷ (9, 9) ∷ []) ((10, 10) ∷ (13, 13) ∷ []) false false (outside_set s.classes (one_of_two s.classes (one_text s.classes 32) (one_text s.classes 9))) (outside_sub s.classes ((10, 10) ∷ (13, 13) ∷ []) rule.newline refl refl refl (outside_choice s.classes ((10, 10) ∷ []) ((13, 13) ∷ []) false false (outside_set s.classes (one_text s.classes 10)) (outside_text s.classes))))) refl refl refl)) (within s rule.WHITESPACE refl refl refl (either s 461 460 462 refl (at_once s) (one_of s 1 (one_of_two s.classes (one_text s.classes 32) (one_text s.classes 9)) refl refl refl) (tested s 2 (outside_sub s.classes ((10, 10) ∷ (13, 13) ∷ []) rule.newline refl refl refl (outside_choice s.classes ((10, 10) ∷ []) ((13, 13) ∷ []) false false (outside_set s.classes (one_text s.classes 10)) (outside_text s.classes))) refl refl refl) (within s rule.newline refl refl refl (either s 463 462 463 refl (at_once s) (word s 30 refl refl refl) (at_once s) (word s 31 refl refl refl)))))) refl)))) (seq 464 465 (within s rule.infix_operator refl refl refl (either s 466 467 466 refl (noted s 17 468 refl (outside_call s.classes ((126, 126) ∷ []) false rule.sequence_operator refl refl refl (outside_set s.classes (one_text s.classes 126))) refl refl refl refl) (calls s rule.sequence_operator 121 122 at_sequence_operator_plain refl refl refl refl refl) (at_once s) (calls s rule.choice_operator 123 124 at_choice_operator_plain refl refl refl refl refl))) (gap_in_place s (seq 469 469 (many s 470 (op.IsOne 0 470 469) refl (λ c z. z) (tight_between s) refl (inl (tested s 0 (outside_sub s.classes ((32, 32) ∷ (9, 9) ∷ (10, 10) ∷ (13, 13) ∷ []) rule.WHITESPACE refl refl refl (outside_choice s.classes ((32, 32) ∷ (9, 9) ∷ []) ((10, 10) ∷ (13, 13) ∷ []) false false (outside_set s.classes (one_of_two s.classes (one_text s.classes 32) (one_text s.classes 9))) (outside_sub s.classes ((10, 10) ∷ (13, 13) ∷ []) rule.newline refl refl refl (outside_choice s.classes ((10, 10) ∷ []) ((13, 13) ∷ []) false false (outside_set s.classes (one_text s.classes 10)) (outside_text s.classes))))) refl refl refl)) (within s rule.WHITESPACE refl refl refl (either s 471 470 472 refl (at_once s) (one_of s 1 (one_of_two s.classes (one_text s.classes 32) (one_text s.classes 9)) refl refl refl) (tested s 2 (outside_sub s.classes ((10, 10) ∷ (13, 13) ∷ []) rule.newline refl refl refl (outside_choice s.classes ((10, 10) ∷ []) ((13, 13) ∷ []) false false (outside_set s.classes (one_text s.classes 10)) (outside_text s.classes))) refl refl refl) (within s rule.newline refl refl refl (either s 473 472 473 refl (at_once s) (word s 30 refl refl refl) (at_once s) (word s 31 refl refl refl)))))) (between s) (many s 474 (op.IsOne 3 474 465) refl (λ c z. z) (tight_between s) refl (inl (tested s 3 (outside_seq s.classes ((47, 47) ∷ (47, 47) ∷ []) false (outside_sub s.classes ((47, 47) ∷ (47, 47) ∷ []) rule.COMMENT refl refl refl (outside_choice s.classes ((47, 47) ∷ []) ((47, 47) ∷ []) false false (outside_sub s.classes ((47, 47) ∷ []) rule.block_comment refl refl refl (outside_seq s.classes ((47, 47) ∷ []) false (outside_seq s.classes ((47, 47) ∷ []) false (outside_text s.classes)))) (outside_sub s.classes ((47, 47) ∷ []) rule.line_comment refl refl refl (outside_seq s.classes ((47, 47) ∷ []) false (outside_seq s.classes ((47, 47) ∷ []) false (outside_text s.classes))))))) refl refl refl)) (tries s 475 477 477 476 refl (enters s rule.COMMENT 191 192 at_COMMENT_atomic_apart refl refl refl refl refl) (between s) (many s 478 (op.IsOne 0 478 476) refl (λ c z. z) (tight_between s) refl (inl (tested s 0 (outside_sub s.classes ((32, 32) ∷ (9, 9) ∷ (10, 10) ∷ (13, 13) ∷ []) rule.WHITESPACE refl refl refl (outside_choice s.classes ((32, 32) ∷ (9, 9) ∷ []) ((10, 10) ∷ (13, 13) ∷ []) false false (outside_set s.classes (one_of_two s.classes (one_text s.classes 32) (one_text s.classes 9))) (outside_sub s.classes ((10, 10) ∷ (13, 13) ∷ []) rule.newline refl refl refl (outside_choice s.classes ((10, 10) ∷ []) ((13, 13) ∷ []) false false (outside_set s.classes (one_text s.classes 10)) (outside_text s.classes))))) refl refl refl)) (within s rule.WHITESPACE refl refl refl (either s 479 478 480 refl (at_once s) (one_of s 1 (one_of_two s.classes (one_text s.classes 32) (one_text s.classes 9)) refl refl refl) (tested s 2 (outside_sub s.classes ((10, 10) ∷ (13, 13) ∷ []) rule.newline refl refl refl (outside_choice s.classes ((10, 10) ∷ []) ((13, 13) ∷ []) false false (outside_set s.classes (one_text s.classes 10)) (outside_text s.classes))) refl refl refl) (within s rule.newline refl refl refl (either s 481 480 481 refl (at_once s) (word s 30 refl refl refl) (at_once s) (word s 31 refl refl refl)))))) refl)))) (calls s rule.term 105 106 at_term_plain refl refl refl refl refl)) refl)
+  expression_plain = seq 413 414 (seq 415 416 (maybe s 417 refl (noted s 15 418 refl (outside_call s.classes ((124, 124) ∷ []) false rule.choice_operator refl refl refl (outside_set s.classes (one_text s.classes 124))) refl refl refl refl) (calls s rule.choice_operator 123 124 at_choice_operator_plain refl refl refl refl refl)) (trivia_in_place s (seq 419 419 (many s 420 (op.IsOne 0 420 419) refl (λ c z. z) (tight_between s) refl (inl (tested s 0 (outside_sub s.classes ((32, 32) ∷ (9, 9) ∷ (10, 10) ∷ (13, 13) ∷ []) rule.WHITESPACE refl refl refl (outside_choice s.classes ((32, 32) ∷ (9, 9) ∷ []) ((10, 10) ∷ (13, 13) ∷ []) false false (outside_set s.classes (one_of_two s.classes (one_text s.classes 32) (one_text s.classes 9))) (outside_sub s.classes ((10, 10) ∷ (13, 13) ∷ []) rule.newline refl refl refl (outside_choice s.classes ((10, 10) ∷ []) ((13, 13) ∷ []) false false (outside_set s.classes (one_text s.classes 10)) (outside_text s.classes))))) refl refl refl)) (within s rule.WHITESPACE refl refl refl (either s 421 420 422 refl (at_once s) (one_of s 1 (one_of_two s.classes (one_text s.classes 32) (one_text s.classes 9)) refl refl refl) (tested s 2 (outside_sub s.classes ((10, 10) ∷ (13, 13) ∷ []) rule.newline refl refl refl (outside_choice s.classes ((10, 10) ∷ []) ((13, 13) ∷ []) false false (outside_set s.classes (one_text s.classes 10)) (outside_text s.classes))) refl refl refl) (within s rule.newline refl refl refl (either s 423 422 423 refl (at_once s) (word s 30 refl refl refl) (at_once s) (word s 31 refl refl refl)))))) (between s) (many s 424 (op.IsOne 3 424 416) refl (λ c z. z) (tight_between s) refl (inl (tested s 3 (outside_seq s.classes ((47, 47) ∷ (47, 47) ∷ []) false (outside_sub s.classes ((47, 47) ∷ (47, 47) ∷ []) rule.COMMENT refl refl refl (outside_choice s.classes ((47, 47) ∷ []) ((47, 47) ∷ []) false false (outside_sub s.classes ((47, 47) ∷ []) rule.block_comment refl refl refl (outside_seq s.classes ((47, 47) ∷ []) false (outside_seq s.classes ((47, 47) ∷ []) false (outside_text s.classes)))) (outside_sub s.classes ((47, 47) ∷ []) rule.line_comment refl refl refl (outside_seq s.classes ((47, 47) ∷ []) false (outside_seq s.classes ((47, 47) ∷ []) false (outside_text s.classes))))))) refl refl refl)) (tries s 425 427 427 426 refl (enters s rule.COMMENT 191 192 at_COMMENT_atomic_apart refl refl refl refl refl) (between s) (many s 428 (op.IsOne 0 428 426) refl (λ c z. z) (tight_between s) refl (inl (tested s 0 (outside_sub s.classes ((32, 32) ∷ (9, 9) ∷ (10, 10) ∷ (13, 13) ∷ []) rule.WHITESPACE refl refl refl (outside_choice s.classes ((32, 32) ∷ (9, 9) ∷ []) ((10, 10) ∷ (13, 13) ∷ []) false false (outside_set s.classes (one_of_two s.classes (one_text s.classes 32) (one_text s.classes 9))) (outside_sub s.classes ((10, 10) ∷ (13, 13) ∷ []) rule.newline refl refl refl (outside_choice s.classes ((10, 10) ∷ []) ((13, 13) ∷ []) false false (outside_set s.classes (one_text s.classes 10)) (outside_text s.classes))))) refl refl refl)) (within s rule.WHITESPACE refl refl refl (either s 429 428 430 refl (at_once s) (one_of s 1 (one_of_two s.classes (one_text s.classes 32) (one_text s.classes 9)) refl refl refl) (tested s 2 (outside_sub s.classes ((10, 10) ∷ (13, 13) ∷ []) rule.newline refl refl refl (outside_choice s.classes ((10, 10) ∷ []) ((13, 13) ∷ []) false false (outside_set s.classes (one_text s.classes 10)) (outside_text s.classes))) refl refl refl) (within s rule.newline refl refl refl (either s 431 430 431 refl (at_once s) (word s 30 refl refl refl) (at_once s) (word s 31 refl refl refl)))))) refl)))) (calls s rule.term 105 106 at_term_plain refl refl refl refl refl)) (trivia_in_place s (seq 432 432 (many s 433 (op.IsOne 0 433 432) refl (λ c z. z) (tight_between s) refl (inl (tested s 0 (outside_sub s.classes ((32, 32) ∷ (9, 9) ∷ (10, 10) ∷ (13, 13) ∷ []) rule.WHITESPACE refl refl refl (outside_choice s.classes ((32, 32) ∷ (9, 9) ∷ []) ((10, 10) ∷ (13, 13) ∷ []) false false (outside_set s.classes (one_of_two s.classes (one_text s.classes 32) (one_text s.classes 9))) (outside_sub s.classes ((10, 10) ∷ (13, 13) ∷ []) rule.newline refl refl refl (outside_choice s.classes ((10, 10) ∷ []) ((13, 13) ∷ []) false false (outside_set s.classes (one_text s.classes 10)) (outside_text s.classes))))) refl refl refl)) (within s rule.WHITESPACE refl refl refl (either s 434 433 435 refl (at_once s) (one_of s 1 (one_of_two s.classes (one_text s.classes 32) (one_text s.classes 9)) refl refl refl) (tested s 2 (outside_sub s.classes ((10, 10) ∷ (13, 13) ∷ []) rule.newline refl refl refl (outside_choice s.classes ((10, 10) ∷ []) ((13, 13) ∷ []) false false (outside_set s.classes (one_text s.classes 10)) (outside_text s.classes))) refl refl refl) (within s rule.newline refl refl refl (either s 436 435 436 refl (at_once s) (word s 30 refl refl refl) (at_once s) (word s 31 refl refl refl)))))) (between s) (many s 437 (op.IsOne 3 437 414) refl (λ c z. z) (tight_between s) refl (inl (tested s 3 (outside_seq s.classes ((47, 47) ∷ (47, 47) ∷ []) false (outside_sub s.classes ((47, 47) ∷ (47, 47) ∷ []) rule.COMMENT refl refl refl (outside_choice s.classes ((47, 47) ∷ []) ((47, 47) ∷ []) false false (outside_sub s.classes ((47, 47) ∷ []) rule.block_comment refl refl refl (outside_seq s.classes ((47, 47) ∷ []) false (outside_seq s.classes ((47, 47) ∷ []) false (outside_text s.classes)))) (outside_sub s.classes ((47, 47) ∷ []) rule.line_comment refl refl refl (outside_seq s.classes ((47, 47) ∷ []) false (outside_seq s.classes ((47, 47) ∷ []) false (outside_text s.classes))))))) refl refl refl)) (tries s 438 440 440 439 refl (enters s rule.COMMENT 191 192 at_COMMENT_atomic_apart refl refl refl refl refl) (between s) (many s 441 (op.IsOne 0 441 439) refl (λ c z. z) (tight_between s) refl (inl (tested s 0 (outside_sub s.classes ((32, 32) ∷ (9, 9) ∷ (10, 10) ∷ (13, 13) ∷ []) rule.WHITESPACE refl refl refl (outside_choice s.classes ((32, 32) ∷ (9, 9) ∷ []) ((10, 10) ∷ (13, 13) ∷ []) false false (outside_set s.classes (one_of_two s.classes (one_text s.classes 32) (one_text s.classes 9))) (outside_sub s.classes ((10, 10) ∷ (13, 13) ∷ []) rule.newline refl refl refl (outside_choice s.classes ((10, 10) ∷ []) ((13, 13) ∷ []) false false (outside_set s.classes (one_text s.classes 10)) (outside_text s.classes))))) refl refl refl)) (within s rule.WHITESPACE refl refl refl (either s 442 441 443 refl (at_once s) (one_of s 1 (one_of_two s.classes (one_text s.classes 32) (one_text s.classes 9)) refl refl refl) (tested s 2 (outside_sub s.classes ((10, 10) ∷ (13, 13) ∷ []) rule.newline refl refl refl (outside_choice s.classes ((10, 10) ∷ []) ((13, 13) ∷ []) false false (outside_set s.classes (one_text s.classes 10)) (outside_text s.classes))) refl refl refl) (within s rule.newline refl refl refl (either s 444 443 444 refl (at_once s) (word s 30 refl refl refl) (at_once s) (word s 31 refl refl refl)))))) refl)))) (turns s 445 447 448 449 450 refl (noted s 16 446 refl (outside_seq s.classes ((126, 126) ∷ (124, 124) ∷ []) true (outside_silent s.classes ((126, 126) ∷ (124, 124) ∷ []) rule.infix_operator refl refl refl (outside_choice s.classes ((126, 126) ∷ []) ((124, 124) ∷ []) true true (outside_call s.classes ((126, 126) ∷ []) false rule.sequence_operator refl refl refl (outside_set s.classes (one_text s.classes 126))) (outside_call s.classes ((124, 124) ∷ []) false rule.choice_operator refl refl refl (outside_set s.classes (one_text s.classes 124)))))) refl refl refl refl) refl refl (trivia_in_place s (seq 451 451 (many s 452 (op.IsOne 0 452 451) refl (λ c z. z) (tight_between s) refl (inl (tested s 0 (outside_sub s.classes ((32, 32) ∷ (9, 9) ∷ (10, 10) ∷ (13, 13) ∷ []) rule.WHITESPACE refl refl refl (outside_choice s.classes ((32, 32) ∷ (9, 9) ∷ []) ((10, 10) ∷ (13, 13) ∷ []) false false (outside_set s.classes (one_of_two s.classes (one_text s.classes 32) (one_text s.classes 9))) (outside_sub s.classes ((10, 10) ∷ (13, 13) ∷ []) rule.newline refl refl refl (outside_choice s.classes ((10, 10) ∷ []) ((13, 13) ∷ []) false false (outside_set s.classes (one_text s.classes 10)) (outside_text s.classes))))) refl refl refl)) (within s rule.WHITESPACE refl refl refl (either s 453 452 454 refl (at_once s) (one_of s 1 (one_of_two s.classes (one_text s.classes 32) (one_text s.classes 9)) refl refl refl) (tested s 2 (outside_sub s.classes ((10, 10) ∷ (13, 13) ∷ []) rule.newline refl refl refl (outside_choice s.classes ((10, 10) ∷ []) ((13, 13) ∷ []) false false (outside_set s.classes (one_text s.classes 10)) (outside_text s.classes))) refl refl refl) (within s rule.newline refl refl refl (either s 455 454 455 refl (at_once s) (word s 30 refl refl refl) (at_once s) (word s 31 refl refl refl)))))) (between s) (many s 456 (op.IsOne 3 456 449) refl (λ c z. z) (tight_between s) refl (inl (tested s 3 (outside_seq s.classes ((47, 47) ∷ (47, 47) ∷ []) false (outside_sub s.classes ((47, 47) ∷ (47, 47) ∷ []) rule.COMMENT refl refl refl (outside_choice s.classes ((47, 47) ∷ []) ((47, 47) ∷ []) false false (outside_sub s.classes ((47, 47) ∷ []) rule.block_comment refl refl refl (outside_seq s.classes ((47, 47) ∷ []) false (outside_seq s.classes ((47, 47) ∷ []) false (outside_text s.classes)))) (outside_sub s.classes ((47, 47) ∷ []) rule.line_comment refl refl refl (outside_seq s.classes ((47, 47) ∷ []) false (outside_seq s.classes ((47, 47) ∷ []) false (outside_text s.classes))))))) refl refl refl)) (tries s 457 459 459 458 refl (enters s rule.COMMENT 191 192 at_COMMENT_atomic_apart refl refl refl refl refl) (between s) (many s 460 (op.IsOne 0 460 458) refl (λ c z. z) (tight_between s) refl (inl (tested s 0 (outside_sub s.classes ((32, 32) ∷ (9, 9) ∷ (10, 10) ∷ (13, 13) ∷ []) rule.WHITESPACE refl refl refl (outside_choice s.classes ((32, 32) ∷ (9, 9) ∷ []) ((10, 10) ∷ (13, 13) ∷ []) false false (outside_set s.classes (one_of_two s.classes (one_text s.classes 32) (one_text s.classes 9))) (outside_sub s.classes ((10, 10) ∷ (13, 13) ∷ []) rule.newline refl refl refl (outside_choice s.classes ((10, 10) ∷ []) ((13, 13) ∷ []) false false (outside_set s.classes (one_text s.classes 10)) (outside_text s.classes))))) refl refl refl)) (within s rule.WHITESPACE refl refl refl (either s 461 460 462 refl (at_once s) (one_of s 1 (one_of_two s.classes (one_text s.classes 32) (one_text s.classes 9)) refl refl refl) (tested s 2 (outside_sub s.classes ((10, 10) ∷ (13, 13) ∷ []) rule.newline refl refl refl (outside_choice s.classes ((10, 10) ∷ []) ((13, 13) ∷ []) false false (outside_set s.classes (one_text s.classes 10)) (outside_text s.classes))) refl refl refl) (within s rule.newline refl refl refl (either s 463 462 463 refl (at_once s) (word s 30 refl refl refl) (at_once s) (word s 31 refl refl refl)))))) refl)))) (seq 464 465 (within s rule.infix_operator refl refl refl (either s 466 467 466 refl (noted s 17 468 refl (outside_call s.classes ((126, 126) ∷ []) false rule.sequence_operator refl refl refl (outside_set s.classes (one_text s.classes 126))) refl refl refl refl) (calls s rule.sequence_operator 121 122 at_sequence_operator_plain refl refl refl refl refl) (at_once s) (calls s rule.choice_operator 123 124 at_choice_operator_plain refl refl refl refl refl))) (trivia_in_place s (seq 469 469 (many s 470 (op.IsOne 0 470 469) refl (λ c z. z) (tight_between s) refl (inl (tested s 0 (outside_sub s.classes ((32, 32) ∷ (9, 9) ∷ (10, 10) ∷ (13, 13) ∷ []) rule.WHITESPACE refl refl refl (outside_choice s.classes ((32, 32) ∷ (9, 9) ∷ []) ((10, 10) ∷ (13, 13) ∷ []) false false (outside_set s.classes (one_of_two s.classes (one_text s.classes 32) (one_text s.classes 9))) (outside_sub s.classes ((10, 10) ∷ (13, 13) ∷ []) rule.newline refl refl refl (outside_choice s.classes ((10, 10) ∷ []) ((13, 13) ∷ []) false false (outside_set s.classes (one_text s.classes 10)) (outside_text s.classes))))) refl refl refl)) (within s rule.WHITESPACE refl refl refl (either s 471 470 472 refl (at_once s) (one_of s 1 (one_of_two s.classes (one_text s.classes 32) (one_text s.classes 9)) refl refl refl) (tested s 2 (outside_sub s.classes ((10, 10) ∷ (13, 13) ∷ []) rule.newline refl refl refl (outside_choice s.classes ((10, 10) ∷ []) ((13, 13) ∷ []) false false (outside_set s.classes (one_text s.classes 10)) (outside_text s.classes))) refl refl refl) (within s rule.newline refl refl refl (either s 473 472 473 refl (at_once s) (word s 30 refl refl refl) (at_once s) (word s 31 refl refl refl)))))) (between s) (many s 474 (op.IsOne 3 474 465) refl (λ c z. z) (tight_between s) refl (inl (tested s 3 (outside_seq s.classes ((47, 47) ∷ (47, 47) ∷ []) false (outside_sub s.classes ((47, 47) ∷ (47, 47) ∷ []) rule.COMMENT refl refl refl (outside_choice s.classes ((47, 47) ∷ []) ((47, 47) ∷ []) false false (outside_sub s.classes ((47, 47) ∷ []) rule.block_comment refl refl refl (outside_seq s.classes ((47, 47) ∷ []) false (outside_seq s.classes ((47, 47) ∷ []) false (outside_text s.classes)))) (outside_sub s.classes ((47, 47) ∷ []) rule.line_comment refl refl refl (outside_seq s.classes ((47, 47) ∷ []) false (outside_seq s.classes ((47, 47) ∷ []) false (outside_text s.classes))))))) refl refl refl)) (tries s 475 477 477 476 refl (enters s rule.COMMENT 191 192 at_COMMENT_atomic_apart refl refl refl refl refl) (between s) (many s 478 (op.IsOne 0 478 476) refl (λ c z. z) (tight_between s) refl (inl (tested s 0 (outside_sub s.classes ((32, 32) ∷ (9, 9) ∷ (10, 10) ∷ (13, 13) ∷ []) rule.WHITESPACE refl refl refl (outside_choice s.classes ((32, 32) ∷ (9, 9) ∷ []) ((10, 10) ∷ (13, 13) ∷ []) false false (outside_set s.classes (one_of_two s.classes (one_text s.classes 32) (one_text s.classes 9))) (outside_sub s.classes ((10, 10) ∷ (13, 13) ∷ []) rule.newline refl refl refl (outside_choice s.classes ((10, 10) ∷ []) ((13, 13) ∷ []) false false (outside_set s.classes (one_text s.classes 10)) (outside_text s.classes))))) refl refl refl)) (within s rule.WHITESPACE refl refl refl (either s 479 478 480 refl (at_once s) (one_of s 1 (one_of_two s.classes (one_text s.classes 32) (one_text s.classes 9)) refl refl refl) (tested s 2 (outside_sub s.classes ((10, 10) ∷ (13, 13) ∷ []) rule.newline refl refl refl (outside_choice s.classes ((10, 10) ∷ []) ((13, 13) ∷ []) false false (outside_set s.classes (one_text s.classes 10)) (outside_text s.classes))) refl refl refl) (within s rule.newline refl refl refl (either s 481 480 481 refl (at_once s) (word s 30 refl refl refl) (at_once s) (word s 31 refl refl refl)))))) refl)))) (calls s rule.term 105 106 at_term_plain refl refl refl refl refl)) refl)
 
   term_plain : Laid s (Run NonAtomicMode (body_of rule.term)) 105 106 0
   unfolding whitespace comment
-  term_plain = seq 482 483 (seq 484 485 (seq 486 487 (maybe s 488 refl (noted s 18 489 refl (outside_silent s.classes ((35, 35) ∷ []) rule.node_tag refl refl refl (outside_seq s.classes ((35, 35) ∷ []) true (outside_call s.classes ((35, 35) ∷ []) false rule.tag_id refl refl refl (outside_seq s.classes ((35, 35) ∷ []) false (outside_seq s.classes ((35, 35) ∷ []) false (outside_set s.classes (one_text s.classes 35))))))) refl refl refl refl) (within s rule.node_tag refl refl refl (tries s 490 492 493 491 refl (calls s rule.tag_id 99 100 at_tag_id_atomic refl refl refl refl refl) (gap_in_place s (seq 494 494 (many s 495 (op.IsOne 0 495 494) refl (λ c z. z) (tight_between s) refl (inl (tested s 0 (outside_sub s.classes ((32, 32) ∷ (9, 9) ∷ (10, 10) ∷ (13, 13) ∷ []) rule.WHITESPACE refl refl refl (outside_choice s.classes ((32, 32) ∷ (9, 9) ∷ []) ((10, 10) ∷ (13, 13) ∷ []) false false (outside_set s.classes (one_of_two s.classes (one_text s.classes 32) (one_text s.classes 9))) (outside_sub s.classes ((10, 10) ∷ (13, 13) ∷ []) rule.newline refl refl refl (outside_choice s.classes ((10, 10) ∷ []) ((13, 13) ∷ []) false false (outside_set s.classes (one_text s.classes 10)) (outside_text s.classes))))) refl refl refl)) (within s rule.WHITESPACE refl refl refl (either s 496 495 497 refl (at_once s) (one_of s 1 (one_of_two s.classes (one_text s.classes 32) (one_text s.classes 9)) refl refl refl) (tested s 2 (outside_sub s.classes ((10, 10) ∷ (13, 13) ∷ []) rule.newline refl refl refl (outside_choice s.classes ((10, 10) ∷ []) ((13, 13) ∷ []) false false (outside_set s.classes (one_text s.classes 10)) (outside_text s.classes))) refl refl refl) (within s rule.newline refl refl refl (either s 498 497 498 refl (at_once s) (word s 30 refl refl refl) (at_once s) (word s 31 refl refl refl)))))) (between s) (many s 499 (op.IsOne 3 499 493) refl (λ c z. z) (tight_between s) refl (inl (tested s 3 (outside_seq s.classes ((47, 47) ∷ (47, 47) ∷ []) false (outside_sub s.classes ((47, 47) ∷ (47, 47) ∷ []) rule.COMMENT refl refl refl (outside_choice s.classes ((47, 47) ∷ []) ((47, 47) ∷ []) false false (outside_sub s.classes ((47, 47) ∷ []) rule.block_comment refl refl refl (outside_seq s.classes ((47, 47) ∷ []) false (outside_seq s.classes ((47, 47) ∷ []) false (outside_text s.classes)))) (outside_sub s.classes ((47, 47) ∷ []) rule.line_comment refl refl refl (outside_seq s.classes ((47, 47) ∷ []) false (outside_seq s.classes ((47, 47) ∷ []) false (outside_text s.classes))))))) refl refl refl)) (tries s 500 502 502 501 refl (enters s rule.COMMENT 191 192 at_COMMENT_atomic_apart refl refl refl refl refl) (between s) (many s 503 (op.IsOne 0 503 501) refl (λ c z. z) (tight_between s) refl (inl (tested s 0 (outside_sub s.classes ((32, 32) ∷ (9, 9) ∷ (10, 10) ∷ (13, 13) ∷ []) rule.WHITESPACE refl refl refl (outside_choice s.classes ((32, 32) ∷ (9, 9) ∷ []) ((10, 10) ∷ (13, 13) ∷ []) false false (outside_set s.classes (one_of_two s.classes (one_text s.classes 32) (one_text s.classes 9))) (outside_sub s.classes ((10, 10) ∷ (13, 13) ∷ []) rule.newline refl refl refl (outside_choice s.classes ((10, 10) ∷ []) ((13, 13) ∷ []) false false (outside_set s.classes (one_text s.classes 10)) (outside_text s.classes))))) refl refl refl)) (within s rule.WHITESPACE refl refl refl (either s 504 503 505 refl (at_once s) (one_of s 1 (one_of_two s.classes (one_text s.classes 32) (one_text s.classes 9)) refl refl refl) (tested s 2 (outside_sub s.classes ((10, 10) ∷ (13, 13) ∷ []) rule.newline refl refl refl (outside_choice s.classes ((10, 10) ∷ []) ((13, 13) ∷ []) false false (outside_set s.classes (one_text s.classes 10)) (outside_text s.classes))) refl refl refl) (within s rule.newline refl refl refl (either s 506 505 506 refl (at_once s) (word s 30 refl refl refl) (at_once s) (word s 31 refl refl refl)))))) refl)))) (calls s rule.assignment_operator 75 76 at_assignment_operator_plain refl refl refl refl refl) refl))) (gap_in_place s (seq 507 507 (many s 508 (op.IsOne 0 508 507) refl (λ c z. z) (tight_between s) refl (inl (tested s 0 (outside_sub s.classes ((32, 32) ∷ (9, 9) ∷ (10, 10) ∷ (13, 13) ∷ []) rule.WHITESPACE refl refl refl (outside_choice s.classes ((32, 32) ∷ (9, 9) ∷ []) ((10, 10) ∷ (13, 13) ∷ []) false false (outside_set s.classes (one_of_two s.classes (one_text s.classes 32) (one_text s.classes 9))) (outside_sub s.classes ((10, 10) ∷ (13, 13) ∷ []) rule.newline refl refl refl (outside_choice s.classes ((10, 10) ∷ []) ((13, 13) ∷ []) false false (outside_set s.classes (one_text s.classes 10)) (outside_text s.classes))))) refl refl refl)) (within s rule.WHITESPACE refl refl refl (either s 509 508 510 refl (at_once s) (one_of s 1 (one_of_two s.classes (one_text s.classes 32) (one_text s.classes 9)) refl refl refl) (tested s 2 (outside_sub s.classes ((10, 10) ∷ (13, 13) ∷ []) rule.newline refl refl refl (outside_choice s.classes ((10, 10) ∷ []) ((13, 13) ∷ []) false false (outside_set s.classes (one_text s.classes 10)) (outside_text s.classes))) refl refl refl) (within s rule.newline refl refl refl (either s 511 510 511 refl (at_once s) (word s 30 refl refl refl) (at_once s) (word s 31 refl refl refl)))))) (between s) (many s 512 (op.IsOne 3 512 487) refl (λ c z. z) (tight_between s) refl (inl (tested s 3 (outside_seq s.classes ((47, 47) ∷ (47, 47) ∷ []) false (outside_sub s.classes ((47, 47) ∷ (47, 47) ∷ []) rule.COMMENT refl refl refl (outside_choice s.classes ((47, 47) ∷ []) ((47, 47) ∷ []) false false (outside_sub s.classes ((47, 47) ∷ []) rule.block_comment refl refl refl (outside_seq s.classes ((47, 47) ∷ []) false (outside_seq s.classes ((47, 47) ∷ []) false (outside_text s.classes)))) (outside_sub s.classes ((47, 47) ∷ []) rule.line_comment refl refl refl (outside_seq s.classes ((47, 47) ∷ []) false (outside_seq s.classes ((47, 47) ∷ []) false (outside_text s.classes))))))) refl refl refl)) (tries s 513 515 515 514 refl (enters s rule.COMMENT 191 192 at_COMMENT_atomic_apart refl refl refl refl refl) (between s) (many s 516 (op.IsOne 0 516 514) refl (λ c z. z) (tight_between s) refl (inl (tested s 0 (outside_sub s.classes ((32, 32) ∷ (9, 9) ∷ (10, 10) ∷ (13, 13) ∷ []) rule.WHITESPACE refl refl refl (outside_choice s.classes ((32, 32) ∷ (9, 9) ∷ []) ((10, 10) ∷ (13, 13) ∷ []) false false (outside_set s.classes (one_of_two s.classes (one_text s.classes 32) (one_text s.classes 9))) (outside_sub s.classes ((10, 10) ∷ (13, 13) ∷ []) rule.newline refl refl refl (outside_choice s.classes ((10, 10) ∷ []) ((13, 13) ∷ []) false false (outside_set s.classes (one_text s.classes 10)) (outside_text s.classes))))) refl refl refl)) (within s rule.WHITESPACE refl refl refl (either s 517 516 518 refl (at_once s) (one_of s 1 (one_of_two s.classes (one_text s.classes 32) (one_text s.classes 9)) refl refl refl) (tested s 2 (outside_sub s.classes ((10, 10) ∷ (13, 13) ∷ []) rule.newline refl refl refl (outside_choice s.classes ((10, 10) ∷ []) ((13, 13) ∷ []) false false (outside_set s.classes (one_text s.classes 10)) (outside_text s.classes))) refl refl refl) (within s rule.newline refl refl refl (either s 519 518 519 refl (at_once s) (word s 30 refl refl refl) (at_once s) (word s 31 refl refl refl)))))) refl)))) (turns s 520 522 523 524 525 refl (noted s 19 521 refl (outside_silent s.classes ((38, 38) ∷ (33, 33) ∷ []) rule.prefix_operator refl refl refl (outside_choice s.classes ((38, 38) ∷ []) ((33, 33) ∷ []) true true (outside_call s.classes ((38, 38) ∷ []) false rule.positive_predicate_operator refl refl refl (outside_set s.classes (one_text s.classes 38))) (outside_call s.classes ((33, 33) ∷ []) false rule.negative_predicate_operator refl refl refl (outside_set s.classes (one_text s.classes 33))))) refl refl refl refl) refl refl (gap_in_place s (seq 526 526 (many s 527 (op.IsOne 0 527 526) refl (λ c z. z) (tight_between s) refl (inl (tested s 0 (outside_sub s.classes ((32, 32) ∷ (9, 9) ∷ (10, 10) ∷ (13, 13) ∷ []) rule.WHITESPACE refl refl refl (outside_choice s.classes ((32, 32) ∷ (9, 9) ∷ []) ((10, 10) ∷ (13, 13) ∷ []) false false (outside_set s.classes (one_of_two s.classes (one_text s.classes 32) (one_text s.classes 9))) (outside_sub s.classes ((10, 10) ∷ (13, 13) ∷ []) rule.newline refl refl refl (outside_choice s.classes ((10, 10) ∷ []) ((13, 13) ∷ []) false false (outside_set s.classes (one_text s.classes 10)) (outside_text s.classes))))) refl refl refl)) (within s rule.WHITESPACE refl refl refl (either s 528 527 529 refl (at_once s) (one_of s 1 (one_of_two s.classes (one_text s.classes 32) (one_text s.classes 9)) refl refl refl) (tested s 2 (outside_sub s.classes ((10, 10) ∷ (13, 13) ∷ []) rule.newline refl refl refl (outside_choice s.classes ((10, 10) ∷ []) ((13, 13) ∷ []) false false (outside_set s.classes (one_text s.classes 10)) (outside_text s.classes))) refl refl refl) (within s rule.newline refl refl refl (either s 530 529 530 refl (at_once s) (word s 30 refl refl refl) (at_once s) (word s 31 refl refl refl)))))) (between s) (many s 531 (op.IsOne 3 531 524) refl (λ c z. z) (tight_between s) refl (inl (tested s 3 (outside_seq s.classes ((47, 47) ∷ (47, 47) ∷ []) false (outside_sub s.classes ((47, 47) ∷ (47, 47) ∷ []) rule.COMMENT refl refl refl (outside_choice s.classes ((47, 47) ∷ []) ((47, 47) ∷ []) false false (outside_sub s.classes ((47, 47) ∷ []) rule.block_comment refl refl refl (outside_seq s.classes ((47, 47) ∷ []) false (outside_seq s.classes ((47, 47) ∷ []) false (outside_text s.classes)))) (outside_sub s.classes ((47, 47) ∷ []) rule.line_comment refl refl refl (outside_seq s.classes ((47, 47) ∷ []) false (outside_seq s.classes ((47, 47) ∷ []) false (outside_text s.classes))))))) refl refl refl)) (tries s 532 534 534 533 refl (enters s rule.COMMENT 191 192 at_COMMENT_atomic_apart refl refl refl refl refl) (between s) (many s 535 (op.IsOne 0 535 533) refl (λ c z. z) (tight_between s) refl (inl (tested s 0 (outside_sub s.classes ((32, 32) ∷ (9, 9) ∷ (10, 10) ∷ (13, 13) ∷ []) rule.WHITESPACE refl refl refl (outside_choice s.classes ((32, 32) ∷ (9, 9) ∷ []) ((10, 10) ∷ (13, 13) ∷ []) false false (outside_set s.classes (one_of_two s.classes (one_text s.classes 32) (one_text s.classes 9))) (outside_sub s.classes ((10, 10) ∷ (13, 13) ∷ []) rule.newline refl refl refl (outside_choice s.classes ((10, 10) ∷ []) ((13, 13) ∷ []) false false (outside_set s.classes (one_text s.classes 10)) (outside_text s.classes))))) refl refl refl)) (within s rule.WHITESPACE refl refl refl (either s 536 535 537 refl (at_once s) (one_of s 1 (one_of_two s.classes (one_text s.classes 32) (one_text s.classes 9)) refl refl refl) (tested s 2 (outside_sub s.classes ((10, 10) ∷ (13, 13) ∷ []) rule.newline refl refl refl (outside_choice s.classes ((10, 10) ∷ []) ((13, 13) ∷ []) false false (outside_set s.classes (one_text s.classes 10)) (outside_text s.classes))) refl refl refl) (within s rule.newline refl refl refl (either s 538 537 538 refl (at_once s) (word s 30 refl refl refl) (at_once s) (word s 31 refl refl refl)))))) refl)))) (within s rule.prefix_operator refl refl refl (either s 539 540 539 refl (noted s 20 541 refl (outside_call s.classes ((38, 38) ∷ []) false rule.positive_predicate_operator refl refl refl (outside_set s.classes (one_text s.classes 38))) refl refl refl refl) (calls s rule.positive_predicate_operator 117 118 at_positive_predicate_operator_plain refl refl refl refl refl) (at_once s) (calls s rule.negative_predicate_operator 119 120 at_negative_predicate_operator_plain refl refl refl refl refl))) refl)) (gap_in_place s (seq 542 542 (many s 543 (op.IsOne 0 543 542) refl (λ c z. z) (tight_between s) refl (inl (tested s 0 (outside_sub s.classes ((32, 32) ∷ (9, 9) ∷ (10, 10) ∷ (13, 13) ∷ []) rule.WHITESPACE refl refl refl (outside_choice s.classes ((32, 32) ∷ (9, 9) ∷ []) ((10, 10) ∷ (13, 13) ∷ []) false false (outside_set s.classes (one_of_two s.classes (one_text s.classes 32) (one_text s.classes 9))) (outside_sub s.classes ((10, 10) ∷ (13, 13) ∷ []) rule.newline refl refl refl (outside_choice s.classes ((10, 10) ∷ []) ((13, 13) ∷ []) false false (outside_set s.classes (one_text s.classes 10)) (outside_text s.classes))))) refl refl refl)) (within s rule.WHITESPACE refl refl refl (either s 544 543 545 refl (at_once s) (one_of s 1 (one_of_two s.classes (one_text s.classes 32) (one_text s.classes 9)) refl refl refl) (tested s 2 (outside_sub s.classes ((10, 10) ∷ (13, 13) ∷ []) rule.newline refl refl refl (outside_choice s.classes ((10, 10) ∷ []) ((13, 13) ∷ []) false false (outside_set s.classes (one_text s.classes 10)) (outside_text s.classes))) refl refl refl) (within s rule.newline refl refl refl (either s 546 545 546 refl (at_once s) (word s 30 refl refl refl) (at_once s) (word s 31 refl refl refl)))))) (between s) (many s 547 (op.IsOne 3 547 485) refl (λ c z. z) (tight_between s) refl (inl (tested s 3 (outside_seq s.classes ((47, 47) ∷ (47, 47) ∷ []) false (outside_sub s.classes ((47, 47) ∷ (47, 47) ∷ []) rule.COMMENT refl refl refl (outside_choice s.classes ((47, 47) ∷ []) ((47, 47) ∷ []) false false (outside_sub s.classes ((47, 47) ∷ []) rule.block_comment refl refl refl (outside_seq s.classes ((47, 47) ∷ []) false (outside_seq s.classes ((47, 47) ∷ []) false (outside_text s.classes)))) (outside_sub s.classes ((47, 47) ∷ []) rule.line_comment refl refl refl (outside_seq s.classes ((47, 47) ∷ []) false (outside_seq s.classes ((47, 47) ∷ []) false (outside_text s.classes))))))) refl refl refl)) (tries s 548 550 550 549 refl (enters s rule.COMMENT 191 192 at_COMMENT_atomic_apart refl refl refl refl refl) (between s) (many s 551 (op.IsOne 0 551 549) refl (λ c z. z) (tight_between s) refl (inl (tested s 0 (outside_sub s.classes ((32, 32) ∷ (9, 9) ∷ (10, 10) ∷ (13, 13) ∷ []) rule.WHITESPACE refl refl refl (outside_choice s.classes ((32, 32) ∷ (9, 9) ∷ []) ((10, 10) ∷ (13, 13) ∷ []) false false (outside_set s.classes (one_of_two s.classes (one_text s.classes 32) (one_text s.classes 9))) (outside_sub s.classes ((10, 10) ∷ (13, 13) ∷ []) rule.newline refl refl refl (outside_choice s.classes ((10, 10) ∷ []) ((13, 13) ∷ []) false false (outside_set s.classes (one_text s.classes 10)) (outside_text s.classes))))) refl refl refl)) (within s rule.WHITESPACE refl refl refl (either s 552 551 553 refl (at_once s) (one_of s 1 (one_of_two s.classes (one_text s.classes 32) (one_text s.classes 9)) refl refl refl) (tested s 2 (outside_sub s.classes ((10, 10) ∷ (13, 13) ∷ []) rule.newline refl refl refl (outside_choice s.classes ((10, 10) ∷ []) ((13, 13) ∷ []) false false (outside_set s.classes (one_text s.classes 10)) (outside_text s.classes))) refl refl refl) (within s rule.newline refl refl refl (either s 554 553 554 refl (at_once s) (word s 30 refl refl refl) (at_once s) (word s 31 refl refl refl)))))) refl)))) (within s rule.node refl refl refl (either s 555 556 555 refl (noted s 21 557 refl (outside_seq s.classes ((40, 40) ∷ []) true (outside_seq s.classes ((40, 40) ∷ []) true (outside_call s.classes ((40, 40) ∷ []) false rule.opening_paren refl refl refl (outside_set s.classes (one_text s.classes 40))))) refl refl refl refl) (tries s 558 560 561 559 refl (seq 562 563 (calls s rule.opening_paren 81 82 at_opening_paren_plain refl refl refl refl refl) (gap_in_place s (seq 564 564 (many s 565 (op.IsOne 0 565 564) refl (λ c z. z) (tight_between s) refl (inl (tested s 0 (outside_sub s.classes ((32, 32) ∷ (9, 9) ∷ (10, 10) ∷ (13, 13) ∷ []) rule.WHITESPACE refl refl refl (outside_choice s.classes ((32, 32) ∷ (9, 9) ∷ []) ((10, 10) ∷ (13, 13) ∷ []) false false (outside_set s.classes (one_of_two s.classes (one_text s.classes 32) (one_text s.classes 9))) (outside_sub s.classes ((10, 10) ∷ (13, 13) ∷ []) rule.newline refl refl refl (outside_choice s.classes ((10, 10) ∷ []) ((13, 13) ∷ []) false false (outside_set s.classes (one_text s.classes 10)) (outside_text s.classes))))) refl refl refl)) (within s rule.WHITESPACE refl refl refl (either s 566 565 567 refl (at_once s) (one_of s 1 (one_of_two s.classes (one_text s.classes 32) (one_text s.classes 9)) refl refl refl) (tested s 2 (outside_sub s.classes ((10, 10) ∷ (13, 13) ∷ []) rule.newline refl refl refl (outside_choice s.classes ((10, 10) ∷ []) ((13, 13) ∷ []) false false (outside_set s.classes (one_text s.classes 10)) (outside_text s.classes))) refl refl refl) (within s rule.newline refl refl refl (either s 568 567 568 refl (at_once s) (word s 30 refl refl refl) (at_once s) (word s 31 refl refl refl)))))) (between s) (many s 569 (op.IsOne 3 569 563) refl (λ c z. z) (tight_between s) refl (inl (tested s 3 (outside_seq s.classes ((47, 47) ∷ (47, 47) ∷ []) false (outside_sub s.classes ((47, 47) ∷ (47, 47) ∷ []) rule.COMMENT refl refl refl (outside_choice s.classes ((47, 47) ∷ []) ((47, 47) ∷ []) false false (outside_sub s.classes ((47, 47) ∷ []) rule.block_comment refl refl refl (outside_seq s.classes ((47, 47) ∷ []) false (outside_seq s.classes ((47, 47) ∷ []) false (outside_text s.classes)))) (outside_sub s.classes ((47, 47) ∷ []) rule.line_comment refl refl refl (outside_seq s.classes ((47, 47) ∷ []) false (outside_seq s.classes ((47, 47) ∷ []) false (outside_text s.classes))))))) refl refl refl)) (tries s 570 572 572 571 refl (enters s rule.COMMENT 191 192 at_COMMENT_atomic_apart refl refl refl refl refl) (between s) (many s 573 (op.IsOne 0 573 571) refl (λ c z. z) (tight_between s) refl (inl (tested s 0 (outside_sub s.classes ((32, 32) ∷ (9, 9) ∷ (10, 10) ∷ (13, 13) ∷ []) rule.WHITESPACE refl refl refl (outside_choice s.classes ((32, 32) ∷ (9, 9) ∷ []) ((10, 10) ∷ (13, 13) ∷ []) false false (outside_set s.classes (one_of_two s.classes (one_text s.classes 32) (one_text s.classes 9))) (outside_sub s.classes ((10, 10) ∷ (13, 13) ∷ []) rule.newline refl refl refl (outside_choice s.classes ((10, 10) ∷ []) ((13, 13) ∷ []) false false (outside_set s.classes (one_text s.classes 10)) (outside_text s.classes))))) refl refl refl)) (within s rule.WHITESPACE refl refl refl (either s 574 573 575 refl (at_once s) (one_of s 1 (one_of_two s.classes (one_text s.classes 32) (one_text s.classes 9)) refl refl refl) (tested s 2 (outside_sub s.classes ((10, 10) ∷ (13, 13) ∷ []) rule.newline refl refl refl (outside_choice s.classes ((10, 10) ∷ []) ((13, 13) ∷ []) false false (outside_set s.classes (one_text s.classes 10)) (outside_text s.classes))) refl refl refl) (within s rule.newline refl refl refl (either s 576 575 576 refl (at_once s) (word s 30 refl refl refl) (at_once s) (word s 31 refl refl refl)))))) refl)))) (calls s rule.expression 103 104 at_expression_plain refl refl refl refl refl)) (gap_in_place s (seq 577 577 (many s 578 (op.IsOne 0 578 577) refl (λ c z. z) (tight_between s) refl (inl (tested s 0 (outside_sub s.classes ((32, 32) ∷ (9, 9) ∷ (10, 10) ∷ (13, 13) ∷ []) rule.WHITESPACE refl refl refl (outside_choice s.classes ((32, 32) ∷ (9, 9) ∷ []) ((10, 10) ∷ (13, 13) ∷ []) false false (outside_set s.classes (one_of_two s.classes (one_text s.classes 32) (one_text s.classes 9))) (outside_sub s.classes ((10, 10) ∷ (13, 13) ∷ []) rule.newline refl refl refl (outside_choice s.classes ((10, 10) ∷ []) ((13, 13) ∷ []) false false (outside_set s.classes (one_text s.classes 10)) (outside_text s.classes))))) refl refl refl)) (within s rule.WHITESPACE refl refl refl (either s 579 578 580 refl (at_once s) (one_of s 1 (one_of_two s.classes (one_text s.classes 32) (one_text s.classes 9)) refl refl refl) (tested s 2 (outside_sub s.classes ((10, 10) ∷ (13, 13) ∷ []) rule.newline refl refl refl (outside_choice s.classes ((10, 10) ∷ []) ((13, 13) ∷ []) false false (outside_set s.classes (one_text s.classes 10)) (outside_text s.classes))) refl refl refl) (within s rule.newline refl refl refl (either s 581 580 581 refl (at_once s) (word s 30 refl refl refl) (at_once s) (word s 31 refl refl refl)))))) (between s) (many s 582 (op.IsOne 3 582 561) refl (λ c z. z) (tight_between s) refl (inl (tested s 3 (outside_seq s.classes ((47, 47) ∷ (47, 47) ∷ []) false (outside_sub s.classes ((47, 47) ∷ (47, 47) ∷ []) rule.COMMENT refl refl refl (outside_choice s.classes ((47, 47) ∷ []) ((47, 47) ∷ []) false false (outside_sub s.classes ((47, 47) ∷ []) rule.block_comment refl refl refl (outside_seq s.classes ((47, 47) ∷ []) false (outside_seq s.classes ((47, 47) ∷ []) false (outside_text s.classes)))) (outside_sub s.classes ((47, 47) ∷ []) rule.line_comment refl refl refl (outside_seq s.classes ((47, 47) ∷ []) false (outside_seq s.classes ((47, 47) ∷ []) false (outside_text s.classes))))))) refl refl refl)) (tries s 583 585 585 584 refl (enters s rule.COMMENT 191 192 at_COMMENT_atomic_apart refl refl refl refl refl) (between s) (many s 586 (op.IsOne 0 586 584) refl (λ c z. z) (tight_between s) refl (inl (tested s 0 (outside_sub s.classes ((32, 32) ∷ (9, 9) ∷ (10, 10) ∷ (13, 13) ∷ []) rule.WHITESPACE refl refl refl (outside_choice s.classes ((32, 32) ∷ (9, 9) ∷ []) ((10, 10) ∷ (13, 13) ∷ []) false false (outside_set s.classes (one_of_two s.classes (one_text s.classes 32) (one_text s.classes 9))) (outside_sub s.classes ((10, 10) ∷ (13, 13) ∷ []) rule.newline refl refl refl (outside_choice s.classes ((10, 10) ∷ []) ((13, 13) ∷ []) false false (outside_set s.classes (one_text s.classes 10)) (outside_text s.classes))))) refl refl refl)) (within s rule.WHITESPACE refl refl refl (either s 587 586 588 refl (at_once s) (one_of s 1 (one_of_two s.classes (one_text s.classes 32) (one_text s.classes 9)) refl refl refl) (tested s 2 (outside_sub s.classes ((10, 10) ∷ (13, 13) ∷ []) rule.newline refl refl refl (outside_choice s.classes ((10, 10) ∷ []) ((13, 13) ∷ []) false false (outside_set s.classes (one_text s.classes 10)) (outside_text s.classes))) refl refl refl) (within s rule.newline refl refl refl (either s 589 588 589 refl (at_once s) (word s 30 refl refl refl) (at_once s) (word s 31 refl refl refl)))))) refl)))) (calls s rule.closing_paren 83 84 at_closing_paren_plain refl refl refl refl refl) refl) (at_once s) (within s rule.terminal refl refl refl (either s 590 591 590 refl (noted s 22 592 refl (outside_choice s.classes ((80, 80) ∷ (80, 80) ∷ (80, 80) ∷ (95, 95) ∷ (97, 122) ∷ (65, 90) ∷ (34, 34) ∷ []) ((94, 94) ∷ []) true true (outside_choice s.classes ((80, 80) ∷ (80, 80) ∷ (80, 80) ∷ (95, 95) ∷ (97, 122) ∷ (65, 90) ∷ []) ((34, 34) ∷ []) true true (outside_choice s.classes ((80, 80) ∷ (80, 80) ∷ (80, 80) ∷ []) ((95, 95) ∷ (97, 122) ∷ (65, 90) ∷ []) true true (outside_choice s.classes ((80, 80) ∷ (80, 80) ∷ []) ((80, 80) ∷ []) true true (outside_choice s.classes ((80, 80) ∷ []) ((80, 80) ∷ []) true true (outside_call s.classes ((80, 80) ∷ []) false rule._push_literal refl refl refl (outside_seq s.classes ((80, 80) ∷ []) false (outside_seq s.classes ((80, 80) ∷ []) false (outside_seq s.classes ((80, 80) ∷ []) false (outside_text s.classes))))) (outside_call s.classes ((80, 80) ∷ []) false rule._push refl refl refl (outside_seq s.classes ((80, 80) ∷ []) false (outside_seq s.classes ((80, 80) ∷ []) false (outside_seq s.classes ((80, 80) ∷ []) false (outside_text s.classes)))))) (outside_call s.classes ((80, 80) ∷ []) false rule.peek_slice refl refl refl (outside_seq s.classes ((80, 80) ∷ []) false (outside_seq s.classes ((80, 80) ∷ []) false (outside_seq s.classes ((80, 80) ∷ []) false (outside_seq s.classes ((80, 80) ∷ []) false (outside_seq s.classes ((80, 80) ∷ []) false (outside_text s.classes)))))))) (outside_call s.classes ((95, 95) ∷ (97, 122) ∷ (65, 90) ∷ []) false rule.identifier refl refl refl (outside_seq s.classes ((95, 95) ∷ (97, 122) ∷ (65, 90) ∷ []) false (outside_not s.classes ((95, 95) ∷ (97, 122) ∷ (65, 90) ∷ []) (tight_atomic s) (outside_set s.classes (one_of_two s.classes (one_text s.classes 95) (one_called s.classes rule.alpha refl refl refl (one_of_two s.classes (one_range s.classes 97 122) (one_range s.classes 65 90))))))))) (outside_call s.classes ((34, 34) ∷ []) true rule.string refl refl refl (outside_seq s.classes ((34, 34) ∷ []) true (outside_seq s.classes ((34, 34) ∷ []) true (outside_call s.classes ((34, 34) ∷ []) false rule.quote refl refl refl (outside_set s.classes (one_text s.classes 34))))))) (outside_call s.classes ((94, 94) ∷ []) false rule.insensitive_string refl refl refl (outside_seq s.classes ((94, 94) ∷ []) false (outside_set s.classes (one_text s.classes 94))))) refl refl refl refl) (either s 593 594 616 refl (noted s 23 595 refl (outside_choice s.classes ((80, 80) ∷ (80, 80) ∷ (80, 80) ∷ (95, 95) ∷ (97, 122) ∷ (65, 90) ∷ []) ((34, 34) ∷ []) true true (outside_choice s.classes ((80, 80) ∷ (80, 80) ∷ (80, 80) ∷ []) ((95, 95) ∷ (97, 122) ∷ (65, 90) ∷ []) true true (outside_choice s.classes ((80, 80) ∷ (80, 80) ∷ []) ((80, 80) ∷ []) true true (outside_choice s.classes ((80, 80) ∷ []) ((80, 80) ∷ []) true true (outside_call s.classes ((80, 80) ∷ []) false rule._push_literal refl refl refl (outside_seq s.classes ((80, 80) ∷ []) false (outside_seq s.classes ((80, 80) ∷ []) false (outside_seq s.classes ((80, 80) ∷ []) false (outside_text s.classes))))) (outside_call s.classes ((80, 80) ∷ []) false rule._push refl refl refl (outside_seq s.classes ((80, 80) ∷ []) false (outside_seq s.classes ((80, 80) ∷ []) false (outside_seq s.classes ((80, 80) ∷ []) false (outside_text s.classes)))))) (outside_call s.classes ((80, 80) ∷ []) false rule.peek_slice refl refl refl (outside_seq s.classes ((80, 80) ∷ []) false (outside_seq s.classes ((80, 80) ∷ []) false (outside_seq s.classes ((80, 80) ∷ []) false (outside_seq s.classes ((80, 80) ∷ []) false (outside_seq s.classes ((80, 80) ∷ []) false (outside_text s.classes)))))))) (outside_call s.classes ((95, 95) ∷ (97, 122) ∷ (65, 90) ∷ []) false rule.identifier refl refl refl (outside_seq s.classes ((95, 95) ∷ (97, 122) ∷ (65, 90) ∷ []) false (outside_not s.classes ((95, 95) ∷ (97, 122) ∷ (65, 90) ∷ []) (tight_atomic s) (outside_set s.classes (one_of_two s.classes (one_text s.classes 95) (one_called s.classes rule.alpha refl refl refl (one_of_two s.classes (one_range s.classes 97 122) (one_range s.classes 65 90))))))))) (outside_call s.classes ((34, 34) ∷ []) true rule.string refl refl refl (outside_seq s.classes ((34, 34) ∷ []) true (outside_seq s.classes ((34, 34) ∷ []) true (outside_call s.classes ((34, 34) ∷ []) false rule.quote refl refl refl (outside_set s.classes (one_text s.classes 34))))))) refl refl refl refl) (either s 596 597 614 refl (noted s 24 598 refl (outside_choice s.classes ((80, 80) ∷ (80, 80) ∷ (80, 80) ∷ []) ((95, 95) ∷ (97, 122) ∷ (65, 90) ∷ []) true true (outside_choice s.classes ((80, 80) ∷ (80, 80) ∷ []) ((80, 80) ∷ []) true true (outside_choice s.classes ((80, 80) ∷ []) ((80, 80) ∷ []) true true (outside_call s.classes ((80, 80) ∷ []) false rule._push_literal refl refl refl (outside_seq s.classes ((80, 80) ∷ []) false (outside_seq s.classes ((80, 80) ∷ []) false (outside_seq s.classes ((80, 80) ∷ []) false (outside_text s.classes))))) (outside_call s.classes ((80, 80) ∷ []) false rule._push refl refl refl (outside_seq s.classes ((80, 80) ∷ []) false (outside_seq s.classes ((80, 80) ∷ []) false (outside_seq s.classes ((80, 80) ∷ []) false (outside_text s.classes)))))) (outside_call s.classes ((80, 80) ∷ []) false rule.peek_slice refl refl refl (outside_seq s.classes ((80, 80) ∷ []) false (outside_seq s.classes ((80, 80) ∷ []) false (outside_seq s.classes ((80, 80) ∷ []) false (outside_seq s.classes ((80, 80) ∷ []) false (outside_seq s.classes ((80, 80) ∷ []) false (outside_text s.classes)))))))) (outside_call s.classes ((95, 95) ∷ (97, 122) ∷ (65, 90) ∷ []) false rule.identifier refl refl refl (outside_seq s.classes ((95, 95) ∷ (97, 122) ∷ (65, 90) ∷ []) false (outside_not s.classes ((95, 95) ∷ (97, 122) ∷ (65, 90) ∷ []) (tight_atomic s) (outside_set s.classes (one_of_two s.classes (one_text s.classes 95) (one_called s.classes rule.alpha refl refl refl (one_of_two s.classes (one_range s.classes 97 122) (one_range s.classes 65 90))))))))) refl refl refl refl) (either s 599 600 612 refl (noted s 25 601 refl (outside_choice s.classes ((80, 80) ∷ (80, 80) ∷ []) ((80, 80) ∷ []) true true (outside_choice s.classes ((80, 80) ∷ []) ((80, 80) ∷ []) true true (outside_call s.classes ((80, 80) ∷ []) false rule._push_literal refl refl refl (outside_seq s.classes ((80, 80) ∷ []) false (outside_seq s.classes ((80, 80) ∷ []) false (outside_seq s.classes ((80, 80) ∷ []) false (outside_text s.classes))))) (outside_call s.classes ((80, 80) ∷ []) false rule._push refl refl refl (outside_seq s.classes ((80, 80) ∷ []) false (outside_seq s.classes ((80, 80) ∷ []) false (outside_seq s.classes ((80, 80) ∷ []) false (outside_text s.classes)))))) (outside_call s.classes ((80, 80) ∷ []) false rule.peek_slice refl refl refl (outside_seq s.classes ((80, 80) ∷ []) false (outside_seq s.classes ((80, 80) ∷ []) false (outside_seq s.classes ((80, 80) ∷ []) false (outside_seq s.classes ((80, 80) ∷ []) false (outside_seq s.classes ((80, 80) ∷ []) false (outside_text s.classes)))))))) refl refl refl refl) (either s 602 603 610 refl (noted s 26 604 refl (outside_choice s.classes ((80, 80) ∷ []) ((80, 80) ∷ []) true true (outside_call s.classes ((80, 80) ∷ []) false rule._push_literal refl refl refl (outside_seq s.classes ((80, 80) ∷ []) false (outside_seq s.classes ((80, 80) ∷ []) false (outside_seq s.classes ((80, 80) ∷ []) false (outside_text s.classes))))) (outside_call s.classes ((80, 80) ∷ []) false rule._push refl refl refl (outside_seq s.classes ((80, 80) ∷ []) false (outside_seq s.classes ((80, 80) ∷ []) false (outside_seq s.classes ((80, 80) ∷ []) false (outside_text s.classes)))))) refl refl refl refl) (either s 605 606 608 refl (noted s 27 607 refl (outside_call s.classes ((80, 80) ∷ []) false rule._push_literal refl refl refl (outside_seq s.classes ((80, 80) ∷ []) false (outside_seq s.classes ((80, 80) ∷ []) false (outside_seq s.classes ((80, 80) ∷ []) false (outside_text s.classes))))) refl refl refl refl) (calls s rule._push_literal 147 148 at_push_literal__plain refl refl refl refl refl) (noted s 27 609 refl (outside_call s.classes ((80, 80) ∷ []) false rule._push refl refl refl (outside_seq s.classes ((80, 80) ∷ []) false (outside_seq s.classes ((80, 80) ∷ []) false (outside_seq s.classes ((80, 80) ∷ []) false (outside_text s.classes))))) refl refl refl refl) (calls s rule._push 145 146 at_push__plain refl refl refl refl refl)) (noted s 27 611 refl (outside_call s.classes ((80, 80) ∷ []) false rule.peek_slice refl refl refl (outside_seq s.classes ((80, 80) ∷ []) false (outside_seq s.classes ((80, 80) ∷ []) false (outside_seq s.classes ((80, 80) ∷ []) false (outside_seq s.classes ((80, 80) ∷ []) false (outside_seq s.classes ((80, 80) ∷ []) false (outside_text s.classes))))))) refl refl refl refl) (calls s rule.peek_slice 149 150 at_peek_slice_plain refl refl refl refl refl)) (noted s 6 613 refl (outside_call s.classes ((95, 95) ∷ (97, 122) ∷ (65, 90) ∷ []) false rule.identifier refl refl refl (outside_seq s.classes ((95, 95) ∷ (97, 122) ∷ (65, 90) ∷ []) false (outside_not s.classes ((95, 95) ∷ (97, 122) ∷ (65, 90) ∷ []) (tight_atomic s) (outside_set s.classes (one_of_two s.classes (one_text s.classes 95) (one_called s.classes rule.alpha refl refl refl (one_of_two s.classes (one_range s.classes 97 122) (one_range s.classes 65 90)))))))) refl refl refl refl) (calls s rule.identifier 151 152 at_identifier_atomic refl refl refl refl refl)) (noted s 28 615 refl (outside_call s.classes ((34, 34) ∷ []) true rule.string refl refl refl (outside_seq s.classes ((34, 34) ∷ []) true (outside_seq s.classes ((34, 34) ∷ []) true (outside_call s.classes ((34, 34) ∷ []) false rule.quote refl refl refl (outside_set s.classes (one_text s.classes 34)))))) refl refl refl refl) (calls s rule.string 157 158 at_string_compound refl refl refl refl refl)) (noted s 29 617 refl (outside_call s.classes ((94, 94) ∷ []) false rule.insensitive_string refl refl refl (outside_seq s.classes ((94, 94) ∷ []) false (outside_set s.classes (one_text s.classes 94)))) refl refl refl refl) (calls s rule.insensitive_string 159 160 at_insensitive_string_plain refl refl refl refl refl)) (at_once s) (calls s rule.range 161 162 at_range_plain refl refl refl refl refl)))))) (gap_in_place s (seq 618 618 (many s 619 (op.IsOne 0 619 618) refl (λ c z. z) (tight_between s) refl (inl (tested s 0 (outside_sub s.classes ((32, 32) ∷ (9, 9) ∷ (10, 10) ∷ (13, 13) ∷ []) rule.WHITESPACE refl refl refl (outside_choice s.classes ((32, 32) ∷ (9, 9) ∷ []) ((10, 10) ∷ (13, 13) ∷ []) false false (outside_set s.classes (one_of_two s.classes (one_text s.classes 32) (one_text s.classes 9))) (outside_sub s.classes ((10, 10) ∷ (13, 13) ∷ []) rule.newline refl refl refl (outside_choice s.classes ((10, 10) ∷ []) ((13, 13) ∷ []) false false (outside_set s.classes (one_text s.classes 10)) (outside_text s.classes))))) refl refl refl)) (within s rule.WHITESPACE refl refl refl (either s 620 619 621 refl (at_once s) (one_of s 1 (one_of_two s.classes (one_text s.classes 32) (one_text s.classes 9)) refl refl refl) (tested s 2 (outside_sub s.classes ((10, 10) ∷ (13, 13) ∷ []) rule.newline refl refl refl (outside_choice s.classes ((10, 10) ∷ []) ((13, 13) ∷ []) false false (outside_set s.classes (one_text s.classes 10)) (outside_text s.classes))) refl refl refl) (within s rule.newline refl refl refl (either s 622 621 622 refl (at_once s) (word s 30 refl refl refl) (at_once s) (word s 31 refl refl refl)))))) (between s) (many s 623 (op.IsOne 3 623 483) refl (λ c z. z) (tight_between s) refl (inl (tested s 3 (outside_seq s.classes ((47, 47) ∷ (47, 47) ∷ []) false (outside_sub s.classes ((47, 47) ∷ (47, 47) ∷ []) rule.COMMENT refl refl refl (outside_choice s.classes ((47, 47) ∷ []) ((47, 47) ∷ []) false false (outside_sub s.classes ((47, 47) ∷ []) rule.block_comment refl refl refl (outside_seq s.classes ((47, 47) ∷ []) false (outside_seq s.classes ((47, 47) ∷ []) false (outside_text s.classes)))) (outside_sub s.classes ((47, 47) ∷ []) rule.line_comment refl refl refl (outside_seq s.classes ((47, 47) ∷ []) false (outside_seq s.classes ((47, 47) ∷ []) false (outside_text s.classes))))))) refl refl refl)) (tries s 624 626 626 625 refl (enters s rule.COMMENT 191 192 at_COMMENT_atomic_apart refl refl refl refl refl) (between s) (many s 627 (op.IsOne 0 627 625) refl (λ c z. z) (tight_between s) refl (inl (tested s 0 (outside_sub s.classes ((32, 32) ∷ (9, 9) ∷ (10, 10) ∷ (13, 13) ∷ []) rule.WHITESPACE refl refl refl (outside_choice s.classes ((32, 32) ∷ (9, 9) ∷ []) ((10, 10) ∷ (13, 13) ∷ []) false false (outside_set s.classes (one_of_two s.classes (one_text s.classes 32) (one_text s.classes 9))) (outside_sub s.classes ((10, 10) ∷ (13, 13) ∷ []) rule.newline refl refl refl (outside_choice s.classes ((10, 10) ∷ []) ((13, 13) ∷ []) false false (outside_set s.classes (one_text s.classes 10)) (outside_text s.classes))))) refl refl refl)) (within s rule.WHITESPACE refl refl refl (either s 628 627 629 refl (at_once s) (one_of s 1 (one_of_two s.classes (one_text s.classes 32) (one_text s.classes 9)) refl refl refl) (tested s 2 (outside_sub s.classes ((10, 10) ∷ (13, 13) ∷ []) rule.newline refl refl refl (outside_choice s.classes ((10, 10) ∷ []) ((13, 13) ∷ []) false false (outside_set s.classes (one_text s.classes 10)) (outside_text s.classes))) refl refl refl) (within s rule.newline refl refl refl (either s 630 629 630 refl (at_once s) (word s 30 refl refl refl) (at_once s) (word s 31 refl refl refl)))))) refl)))) (turns s 631 633 634 635 636 refl (noted s 30 632 refl (outside_silent s.classes ((63, 63) ∷ (42, 42) ∷ (43, 43) ∷ (123, 123) ∷ (123, 123) ∷ (123, 123) ∷ (123, 123) ∷ []) rule.postfix_operator refl refl refl (outside_choice s.classes ((63, 63) ∷ (42, 42) ∷ (43, 43) ∷ (123, 123) ∷ (123, 123) ∷ (123, 123) ∷ []) ((123, 123) ∷ []) true true (outside_choice s.classes ((63, 63) ∷ (42, 42) ∷ (43, 43) ∷ (123, 123) ∷ (123, 123) ∷ []) ((123, 123) ∷ []) true true (outside_choice s.classes ((63, 63) ∷ (42, 42) ∷ (43, 43) ∷ (123, 123) ∷ []) ((123, 123) ∷ []) true true (outside_choice s.classes ((63, 63) ∷ (42, 42) ∷ (43, 43) ∷ []) ((123, 123) ∷ []) true true (outside_choice s.classes ((63, 63) ∷ (42, 42) ∷ []) ((43, 43) ∷ []) true true (outside_choice s.classes ((63, 63) ∷ []) ((42, 42) ∷ []) true true (outside_call s.classes ((63, 63) ∷ []) false rule.optional_operator refl refl refl (outside_set s.classes (one_text s.classes 63))) (outside_call s.classes ((42, 42) ∷ []) false rule.repeat_operator refl refl refl (outside_set s.classes (one_text s.classes 42)))) (outside_call s.classes ((43, 43) ∷ []) false rule.repeat_once_operator refl refl refl (outside_set s.classes (one_text s.classes 43)))) (outside_call s.classes ((123, 123) ∷ []) true rule.repeat_exact refl refl refl (outside_seq s.classes ((123, 123) ∷ []) true (outside_seq s.classes ((123, 123) ∷ []) true (outside_call s.classes ((123, 123) ∷ []) false rule.opening_brace refl refl refl (outside_set s.classes (one_text s.classes 123))))))) (outside_call s.classes ((123, 123) ∷ []) true rule.repeat_min refl refl refl (outside_seq s.classes ((123, 123) ∷ []) true (outside_seq s.classes ((123, 123) ∷ []) true (outside_seq s.classes ((123, 123) ∷ []) true (outside_call s.classes ((123, 123) ∷ []) false rule.opening_brace refl refl refl (outside_set s.classes (one_text s.classes 123)))))))) (outside_call s.classes ((123, 123) ∷ []) true rule.repeat_max refl refl refl (outside_seq s.classes ((123, 123) ∷ []) true (outside_seq s.classes ((123, 123) ∷ []) true (outside_seq s.classes ((123, 123) ∷ []) true (outside_call s.classes ((123, 123) ∷ []) false rule.opening_brace refl refl refl (outside_set s.classes (one_text s.classes 123)))))))) (outside_call s.classes ((123, 123) ∷ []) true rule.repeat_min_max refl refl refl (outside_seq s.classes ((123, 123) ∷ []) true (outside_seq s.classes ((123, 123) ∷ []) true (outside_seq s.classes ((123, 123) ∷ []) true (outside_seq s.classes ((123, 123) ∷ []) true (outside_call s.classes ((123, 123) ∷ []) false rule.opening_brace refl refl refl (outside_set s.classes (one_text s.classes 123)))))))))) refl refl refl refl) refl refl (gap_in_place s (seq 637 637 (many s 638 (op.IsOne 0 638 637) refl (λ c z. z) (tight_between s) refl (inl (tested s 0 (outside_sub s.classes ((32, 32) ∷ (9, 9) ∷ (10, 10) ∷ (13, 13) ∷ []) rule.WHITESPACE refl refl refl (outside_choice s.classes ((32, 32) ∷ (9, 9) ∷ []) ((10, 10) ∷ (13, 13) ∷ []) false false (outside_set s.classes (one_of_two s.classes (one_text s.classes 32) (one_text s.classes 9))) (outside_sub s.classes ((10, 10) ∷ (13, 13) ∷ []) rule.newline refl refl refl (outside_choice s.classes ((10, 10) ∷ []) ((13, 13) ∷ []) false false (outside_set s.classes (one_text s.classes 10)) (outside_text s.classes))))) refl refl refl)) (within s rule.WHITESPACE refl refl refl (either s 639 638 640 refl (at_once s) (one_of s 1 (one_of_two s.classes (one_text s.classes 32) (one_text s.classes 9)) refl refl refl) (tested s 2 (outside_sub s.classes ((10, 10) ∷ (13, 13) ∷ []) rule.newline refl refl refl (outside_choice s.classes ((10, 10) ∷ []) ((13, 13) ∷ []) false false (outside_set s.classes (one_text s.classes 10)) (outside_text s.classes))) refl refl refl) (within s rule.newline refl refl refl (either s 641 640 641 refl (at_once s) (word s 30 refl refl refl) (at_once s) (word s 31 refl refl refl)))))) (between s) (many s 642 (op.IsOne 3 642 635) refl (λ c z. z) (tight_between s) refl (inl (tested s 3 (outside_seq s.classes ((47, 47) ∷ (47, 47) ∷ []) false (outside_sub s.classes ((47, 47) ∷ (47, 47) ∷ []) rule.COMMENT refl refl refl (outside_choice s.classes ((47, 47) ∷ []) ((47, 47) ∷ []) false false (outside_sub s.classes ((47, 47) ∷ []) rule.block_comment refl refl refl (outside_seq s.classes ((47, 47) ∷ []) false (outside_seq s.classes ((47, 47) ∷ []) false (outside_text s.classes)))) (outside_sub s.classes ((47, 47) ∷ []) rule.line_comment refl refl refl (outside_seq s.classes ((47, 47) ∷ []) false (outside_seq s.classes ((47, 47) ∷ []) false (outside_text s.classes))))))) refl refl refl)) (tries s 643 645 645 644 refl (enters s rule.COMMENT 191 192 at_COMMENT_atomic_apart refl refl refl refl refl) (between s) (many s 646 (op.IsOne 0 646 644) refl (λ c z. z) (tight_between s) refl (inl (tested s 0 (outside_sub s.classes ((32, 32) ∷ (9, 9) ∷ (10, 10) ∷ (13, 13) ∷ []) rule.WHITESPACE refl refl refl (outside_choice s.classes ((32, 32) ∷ (9, 9) ∷ []) ((10, 10) ∷ (13, 13) ∷ []) false false (outside_set s.classes (one_of_two s.classes (one_text s.classes 32) (one_text s.classes 9))) (outside_sub s.classes ((10, 10) ∷ (13, 13) ∷ []) rule.newline refl refl refl (outside_choice s.classes ((10, 10) ∷ []) ((13, 13) ∷ []) false false (outside_set s.classes (one_text s.classes 10)) (outside_text s.classes))))) refl refl refl)) (within s rule.WHITESPACE refl refl refl (either s 647 646 648 refl (at_once s) (one_of s 1 (one_of_two s.classes (one_text s.classes 32) (one_text s.classes 9)) refl refl refl) (tested s 2 (outside_sub s.classes ((10, 10) ∷ (13, 13) ∷ []) rule.newline refl refl refl (outside_choice s.classes ((10, 10) ∷ []) ((13, 13) ∷ []) false false (outside_set s.classes (one_text s.classes 10)) (outside_text s.classes))) refl refl refl) (within s rule.newline refl refl refl (either s 649 648 649 refl (at_once s) (word s 30 refl refl refl) (at_once s) (word s 31 refl refl refl)))))) refl)))) (within s rule.postfix_operator refl refl refl (either s 650 651 650 refl (noted s 31 652 refl (outside_choice s.classes ((63, 63) ∷ (42, 42) ∷ (43, 43) ∷ (123, 123) ∷ (123, 123) ∷ []) ((123, 123) ∷ []) true true (outside_choice s.classes ((63, 63) ∷ (42, 42) ∷ (43, 43) ∷ (123, 123) ∷ []) ((123, 123) ∷ []) true true (outside_choice s.classes ((63, 63) ∷ (42, 42) ∷ (43, 43) ∷ []) ((123, 123) ∷ []) true true (outside_choice s.classes ((63, 63) ∷ (42, 42) ∷ []) ((43, 43) ∷ []) true true (outside_choice s.classes ((63, 63) ∷ []) ((42, 42) ∷ []) true true (outside_call s.classes ((63, 63) ∷ []) false rule.optional_operator refl refl refl (outside_set s.classes (one_text s.classes 63))) (outside_call s.classes ((42, 42) ∷ []) false rule.repeat_operator refl refl refl (outside_set s.classes (one_text s.classes 42)))) (outside_call s.classes ((43, 43) ∷ []) false rule.repeat_once_operator refl refl refl (outside_set s.classes (one_text s.classes 43)))) (outside_call s.classes ((123, 123) ∷ []) true rule.repeat_exact refl refl refl (outside_seq s.classes ((123, 123) ∷ []) true (outside_seq s.classes ((123, 123) ∷ []) true (outside_call s.classes ((123, 123) ∷ []) false rule.opening_brace refl refl refl (outside_set s.classes (one_text s.classes 123))))))) (outside_call s.classes ((123, 123) ∷ []) true rule.repeat_min refl refl refl (outside_seq s.classes ((123, 123) ∷ []) true (outside_seq s.classes ((123, 123) ∷ []) true (outside_seq s.classes ((123, 123) ∷ []) true (outside_call s.classes ((123, 123) ∷ []) false rule.opening_brace refl refl refl (outside_set s.classes (one_text s.classes 123)))))))) (outside_call s.classes ((123, 123) ∷ []) true rule.repeat_max refl refl refl (outside_seq s.classes ((123, 123) ∷ []) true (outside_seq s.classes ((123, 123) ∷ []) true (outside_seq s.classes ((123, 123) ∷ []) true (outside_call s.classes ((123, 123) ∷ []) false rule.opening_brace refl refl refl (outside_set s.classes (one_text s.classes 123)))))))) refl refl refl refl) (either s 653 654 676 refl (noted s 32 655 refl (outside_choice s.classes ((63, 63) ∷ (42, 42) ∷ (43, 43) ∷ (123, 123) ∷ []) ((123, 123) ∷ []) true true (outside_choice s.classes ((63, 63) ∷ (42, 42) ∷ (43, 43) ∷ []) ((123, 123) ∷ []) true true (outside_choice s.classes ((63, 63) ∷ (42, 42) ∷ []) ((43, 43) ∷ []) true true (outside_choice s.classes ((63, 63) ∷ []) ((42, 42) ∷ []) true true (outside_call s.classes ((63, 63) ∷ []) false rule.optional_operator refl refl refl (outside_set s.classes (one_text s.classes 63))) (outside_call s.classes ((42, 42) ∷ []) false rule.repeat_operator refl refl refl (outside_set s.classes (one_text s.classes 42)))) (outside_call s.classes ((43, 43) ∷ []) false rule.repeat_once_operator refl refl refl (outside_set s.classes (one_text s.classes 43)))) (outside_call s.classes ((123, 123) ∷ []) true rule.repeat_exact refl refl refl (outside_seq s.classes ((123, 123) ∷ []) true (outside_seq s.classes ((123, 123) ∷ []) true (outside_call s.classes ((123, 123) ∷ []) false rule.opening_brace refl refl refl (outside_set s.classes (one_text s.classes 123))))))) (outside_call s.classes ((123, 123) ∷ []) true rule.repeat_min refl refl refl (outside_seq s.classes ((123, 123) ∷ []) true (outside_seq s.classes ((123, 123) ∷ []) true (outside_seq s.classes ((123, 123) ∷ []) true (outside_call s.classes ((123, 123) ∷ []) false rule.opening_brace refl refl refl (outside_set s.classes (one_text s.classes 123)))))))) refl refl refl refl) (either s 656 657 674 refl (noted s 33 658 refl (outside_choice s.classes ((63, 63) ∷ (42, 42) ∷ (43, 43) ∷ []) ((123, 123) ∷ []) true true (outside_choice s.classes ((63, 63) ∷ (42, 42) ∷ []) ((43, 43) ∷ []) true true (outside_choice s.classes ((63, 63) ∷ []) ((42, 42) ∷ []) true true (outside_call s.classes ((63, 63) ∷ []) false rule.optional_operator refl refl refl (outside_set s.classes (one_text s.classes 63))) (outside_call s.classes ((42, 42) ∷ []) false rule.repeat_operator refl refl refl (outside_set s.classes (one_text s.classes 42)))) (outside_call s.classes ((43, 43) ∷ []) false rule.repeat_once_operator refl refl refl (outside_set s.classes (one_text s.classes 43)))) (outside_call s.classes ((123, 123) ∷ []) true rule.repeat_exact refl refl refl (outside_seq s.classes ((123, 123) ∷ []) true (outside_seq s.classes ((123, 123) ∷ []) true (outside_call s.classes ((123, 123) ∷ []) false rule.opening_brace refl refl refl (outside_set s.classes (one_text s.classes 123))))))) refl refl refl refl) (either s 659 660 672 refl (noted s 34 661 refl (outside_choice s.classes ((63, 63) ∷ (42, 42) ∷ []) ((43, 43) ∷ []) true true (outside_choice s.classes ((63, 63) ∷ []) ((42, 42) ∷ []) true true (outside_call s.classes ((63, 63) ∷ []) false rule.optional_operator refl refl refl (outside_set s.classes (one_text s.classes 63))) (outside_call s.classes ((42, 42) ∷ []) false rule.repeat_operator refl refl refl (outside_set s.classes (one_text s.classes 42)))) (outside_call s.classes ((43, 43) ∷ []) false rule.repeat_once_operator refl refl refl (outside_set s.classes (one_text s.classes 43)))) refl refl refl refl) (either s 662 663 670 refl (noted s 35 664 refl (outside_choice s.classes ((63, 63) ∷ []) ((42, 42) ∷ []) true true (outside_call s.classes ((63, 63) ∷ []) false rule.optional_operator refl refl refl (outside_set s.classes (one_text s.classes 63))) (outside_call s.classes ((42, 42) ∷ []) false rule.repeat_operator refl refl refl (outside_set s.classes (one_text s.classes 42)))) refl refl refl refl) (either s 665 666 668 refl (noted s 36 667 refl (outside_call s.classes ((63, 63) ∷ []) false rule.optional_operator refl refl refl (outside_set s.classes (one_text s.classes 63))) refl refl refl refl) (calls s rule.optional_operator 125 126 at_optional_operator_plain refl refl refl refl refl) (noted s 37 669 refl (outside_call s.classes ((42, 42) ∷ []) false rule.repeat_operator refl refl refl (outside_set s.classes (one_text s.classes 42))) refl refl refl refl) (calls s rule.repeat_operator 127 128 at_repeat_operator_plain refl refl refl refl refl)) (noted s 38 671 refl (outside_call s.classes ((43, 43) ∷ []) false rule.repeat_once_operator refl refl refl (outside_set s.classes (one_text s.classes 43))) refl refl refl refl) (calls s rule.repeat_once_operator 129 130 at_repeat_once_operator_plain refl refl refl refl refl)) (noted s 39 673 refl (outside_call s.classes ((123, 123) ∷ []) true rule.repeat_exact refl refl refl (outside_seq s.classes ((123, 123) ∷ []) true (outside_seq s.classes ((123, 123) ∷ []) true (outside_call s.classes ((123, 123) ∷ []) false rule.opening_brace refl refl refl (outside_set s.classes (one_text s.classes 123)))))) refl refl refl refl) (calls s rule.repeat_exact 131 132 at_repeat_exact_plain refl refl refl refl refl)) (noted s 39 675 refl (outside_call s.classes ((123, 123) ∷ []) true rule.repeat_min refl refl refl (outside_seq s.classes ((123, 123) ∷ []) true (outside_seq s.classes ((123, 123) ∷ []) true (outside_seq s.classes ((123, 123) ∷ []) true (outside_call s.classes ((123, 123) ∷ []) false rule.opening_brace refl refl refl (outside_set s.classes (one_text s.classes 123))))))) refl refl refl refl) (calls s rule.repeat_min 133 134 at_repeat_min_plain refl refl refl refl refl)) (noted s 39 677 refl (outside_call s.classes ((123, 123) ∷ []) true rule.repeat_max refl refl refl (outside_seq s.classes ((123, 123) ∷ []) true (outside_seq s.classes ((123, 123) ∷ []) true (outside_seq s.classes ((123, 123) ∷ []) true (outside_call s.classes ((123, 123) ∷ []) false rule.opening_brace refl refl refl (outside_set s.classes (one_text s.classes 123))))))) refl refl refl refl) (calls s rule.repeat_max 135 136 at_repeat_max_plain refl refl refl refl refl)) (at_once s) (calls s rule.repeat_min_max 137 138 at_repeat_min_max_plain refl refl refl refl refl))) refl)
+  term_plain = seq 482 483 (seq 484 485 (seq 486 487 (maybe s 488 refl (noted s 18 489 refl (outside_silent s.classes ((35, 35) ∷ []) rule.node_tag refl refl refl (outside_seq s.classes ((35, 35) ∷ []) true (outside_call s.classes ((35, 35) ∷ []) false rule.tag_id refl refl refl (outside_seq s.classes ((35, 35) ∷ []) false (outside_seq s.classes ((35, 35) ∷ []) false (outside_set s.classes (one_text s.classes 35))))))) refl refl refl refl) (within s rule.node_tag refl refl refl (tries s 490 492 493 491 refl (calls s rule.tag_id 99 100 at_tag_id_atomic refl refl refl refl refl) (trivia_in_place s (seq 494 494 (many s 495 (op.IsOne 0 495 494) refl (λ c z. z) (tight_between s) refl (inl (tested s 0 (outside_sub s.classes ((32, 32) ∷ (9, 9) ∷ (10, 10) ∷ (13, 13) ∷ []) rule.WHITESPACE refl refl refl (outside_choice s.classes ((32, 32) ∷ (9, 9) ∷ []) ((10, 10) ∷ (13, 13) ∷ []) false false (outside_set s.classes (one_of_two s.classes (one_text s.classes 32) (one_text s.classes 9))) (outside_sub s.classes ((10, 10) ∷ (13, 13) ∷ []) rule.newline refl refl refl (outside_choice s.classes ((10, 10) ∷ []) ((13, 13) ∷ []) false false (outside_set s.classes (one_text s.classes 10)) (outside_text s.classes))))) refl refl refl)) (within s rule.WHITESPACE refl refl refl (either s 496 495 497 refl (at_once s) (one_of s 1 (one_of_two s.classes (one_text s.classes 32) (one_text s.classes 9)) refl refl refl) (tested s 2 (outside_sub s.classes ((10, 10) ∷ (13, 13) ∷ []) rule.newline refl refl refl (outside_choice s.classes ((10, 10) ∷ []) ((13, 13) ∷ []) false false (outside_set s.classes (one_text s.classes 10)) (outside_text s.classes))) refl refl refl) (within s rule.newline refl refl refl (either s 498 497 498 refl (at_once s) (word s 30 refl refl refl) (at_once s) (word s 31 refl refl refl)))))) (between s) (many s 499 (op.IsOne 3 499 493) refl (λ c z. z) (tight_between s) refl (inl (tested s 3 (outside_seq s.classes ((47, 47) ∷ (47, 47) ∷ []) false (outside_sub s.classes ((47, 47) ∷ (47, 47) ∷ []) rule.COMMENT refl refl refl (outside_choice s.classes ((47, 47) ∷ []) ((47, 47) ∷ []) false false (outside_sub s.classes ((47, 47) ∷ []) rule.block_comment refl refl refl (outside_seq s.classes ((47, 47) ∷ []) false (outside_seq s.classes ((47, 47) ∷ []) false (outside_text s.classes)))) (outside_sub s.classes ((47, 47) ∷ []) rule.line_comment refl refl refl (outside_seq s.classes ((47, 47) ∷ []) false (outside_seq s.classes ((47, 47) ∷ []) false (outside_text s.classes))))))) refl refl refl)) (tries s 500 502 502 501 refl (enters s rule.COMMENT 191 192 at_COMMENT_atomic_apart refl refl refl refl refl) (between s) (many s 503 (op.IsOne 0 503 501) refl (λ c z. z) (tight_between s) refl (inl (tested s 0 (outside_sub s.classes ((32, 32) ∷ (9, 9) ∷ (10, 10) ∷ (13, 13) ∷ []) rule.WHITESPACE refl refl refl (outside_choice s.classes ((32, 32) ∷ (9, 9) ∷ []) ((10, 10) ∷ (13, 13) ∷ []) false false (outside_set s.classes (one_of_two s.classes (one_text s.classes 32) (one_text s.classes 9))) (outside_sub s.classes ((10, 10) ∷ (13, 13) ∷ []) rule.newline refl refl refl (outside_choice s.classes ((10, 10) ∷ []) ((13, 13) ∷ []) false false (outside_set s.classes (one_text s.classes 10)) (outside_text s.classes))))) refl refl refl)) (within s rule.WHITESPACE refl refl refl (either s 504 503 505 refl (at_once s) (one_of s 1 (one_of_two s.classes (one_text s.classes 32) (one_text s.classes 9)) refl refl refl) (tested s 2 (outside_sub s.classes ((10, 10) ∷ (13, 13) ∷ []) rule.newline refl refl refl (outside_choice s.classes ((10, 10) ∷ []) ((13, 13) ∷ []) false false (outside_set s.classes (one_text s.classes 10)) (outside_text s.classes))) refl refl refl) (within s rule.newline refl refl refl (either s 506 505 506 refl (at_once s) (word s 30 refl refl refl) (at_once s) (word s 31 refl refl refl)))))) refl)))) (calls s rule.assignment_operator 75 76 at_assignment_operator_plain refl refl refl refl refl) refl))) (trivia_in_place s (seq 507 507 (many s 508 (op.IsOne 0 508 507) refl (λ c z. z) (tight_between s) refl (inl (tested s 0 (outside_sub s.classes ((32, 32) ∷ (9, 9) ∷ (10, 10) ∷ (13, 13) ∷ []) rule.WHITESPACE refl refl refl (outside_choice s.classes ((32, 32) ∷ (9, 9) ∷ []) ((10, 10) ∷ (13, 13) ∷ []) false false (outside_set s.classes (one_of_two s.classes (one_text s.classes 32) (one_text s.classes 9))) (outside_sub s.classes ((10, 10) ∷ (13, 13) ∷ []) rule.newline refl refl refl (outside_choice s.classes ((10, 10) ∷ []) ((13, 13) ∷ []) false false (outside_set s.classes (one_text s.classes 10)) (outside_text s.classes))))) refl refl refl)) (within s rule.WHITESPACE refl refl refl (either s 509 508 510 refl (at_once s) (one_of s 1 (one_of_two s.classes (one_text s.classes 32) (one_text s.classes 9)) refl refl refl) (tested s 2 (outside_sub s.classes ((10, 10) ∷ (13, 13) ∷ []) rule.newline refl refl refl (outside_choice s.classes ((10, 10) ∷ []) ((13, 13) ∷ []) false false (outside_set s.classes (one_text s.classes 10)) (outside_text s.classes))) refl refl refl) (within s rule.newline refl refl refl (either s 511 510 511 refl (at_once s) (word s 30 refl refl refl) (at_once s) (word s 31 refl refl refl)))))) (between s) (many s 512 (op.IsOne 3 512 487) refl (λ c z. z) (tight_between s) refl (inl (tested s 3 (outside_seq s.classes ((47, 47) ∷ (47, 47) ∷ []) false (outside_sub s.classes ((47, 47) ∷ (47, 47) ∷ []) rule.COMMENT refl refl refl (outside_choice s.classes ((47, 47) ∷ []) ((47, 47) ∷ []) false false (outside_sub s.classes ((47, 47) ∷ []) rule.block_comment refl refl refl (outside_seq s.classes ((47, 47) ∷ []) false (outside_seq s.classes ((47, 47) ∷ []) false (outside_text s.classes)))) (outside_sub s.classes ((47, 47) ∷ []) rule.line_comment refl refl refl (outside_seq s.classes ((47, 47) ∷ []) false (outside_seq s.classes ((47, 47) ∷ []) false (outside_text s.classes))))))) refl refl refl)) (tries s 513 515 515 514 refl (enters s rule.COMMENT 191 192 at_COMMENT_atomic_apart refl refl refl refl refl) (between s) (many s 516 (op.IsOne 0 516 514) refl (λ c z. z) (tight_between s) refl (inl (tested s 0 (outside_sub s.classes ((32, 32) ∷ (9, 9) ∷ (10, 10) ∷ (13, 13) ∷ []) rule.WHITESPACE refl refl refl (outside_choice s.classes ((32, 32) ∷ (9, 9) ∷ []) ((10, 10) ∷ (13, 13) ∷ []) false false (outside_set s.classes (one_of_two s.classes (one_text s.classes 32) (one_text s.classes 9))) (outside_sub s.classes ((10, 10) ∷ (13, 13) ∷ []) rule.newline refl refl refl (outside_choice s.classes ((10, 10) ∷ []) ((13, 13) ∷ []) false false (outside_set s.classes (one_text s.classes 10)) (outside_text s.classes))))) refl refl refl)) (within s rule.WHITESPACE refl refl refl (either s 517 516 518 refl (at_once s) (one_of s 1 (one_of_two s.classes (one_text s.classes 32) (one_text s.classes 9)) refl refl refl) (tested s 2 (outside_sub s.classes ((10, 10) ∷ (13, 13) ∷ []) rule.newline refl refl refl (outside_choice s.classes ((10, 10) ∷ []) ((13, 13) ∷ []) false false (outside_set s.classes (one_text s.classes 10)) (outside_text s.classes))) refl refl refl) (within s rule.newline refl refl refl (either s 519 518 519 refl (at_once s) (word s 30 refl refl refl) (at_once s) (word s 31 refl refl refl)))))) refl)))) (turns s 520 522 523 524 525 refl (noted s 19 521 refl (outside_silent s.classes ((38, 38) ∷ (33, 33) ∷ []) rule.prefix_operator refl refl refl (outside_choice s.classes ((38, 38) ∷ []) ((33, 33) ∷ []) true true (outside_call s.classes ((38, 38) ∷ []) false rule.positive_predicate_operator refl refl refl (outside_set s.classes (one_text s.classes 38))) (outside_call s.classes ((33, 33) ∷ []) false rule.negative_predicate_operator refl refl refl (outside_set s.classes (one_text s.classes 33))))) refl refl refl refl) refl refl (trivia_in_place s (seq 526 526 (many s 527 (op.IsOne 0 527 526) refl (λ c z. z) (tight_between s) refl (inl (tested s 0 (outside_sub s.classes ((32, 32) ∷ (9, 9) ∷ (10, 10) ∷ (13, 13) ∷ []) rule.WHITESPACE refl refl refl (outside_choice s.classes ((32, 32) ∷ (9, 9) ∷ []) ((10, 10) ∷ (13, 13) ∷ []) false false (outside_set s.classes (one_of_two s.classes (one_text s.classes 32) (one_text s.classes 9))) (outside_sub s.classes ((10, 10) ∷ (13, 13) ∷ []) rule.newline refl refl refl (outside_choice s.classes ((10, 10) ∷ []) ((13, 13) ∷ []) false false (outside_set s.classes (one_text s.classes 10)) (outside_text s.classes))))) refl refl refl)) (within s rule.WHITESPACE refl refl refl (either s 528 527 529 refl (at_once s) (one_of s 1 (one_of_two s.classes (one_text s.classes 32) (one_text s.classes 9)) refl refl refl) (tested s 2 (outside_sub s.classes ((10, 10) ∷ (13, 13) ∷ []) rule.newline refl refl refl (outside_choice s.classes ((10, 10) ∷ []) ((13, 13) ∷ []) false false (outside_set s.classes (one_text s.classes 10)) (outside_text s.classes))) refl refl refl) (within s rule.newline refl refl refl (either s 530 529 530 refl (at_once s) (word s 30 refl refl refl) (at_once s) (word s 31 refl refl refl)))))) (between s) (many s 531 (op.IsOne 3 531 524) refl (λ c z. z) (tight_between s) refl (inl (tested s 3 (outside_seq s.classes ((47, 47) ∷ (47, 47) ∷ []) false (outside_sub s.classes ((47, 47) ∷ (47, 47) ∷ []) rule.COMMENT refl refl refl (outside_choice s.classes ((47, 47) ∷ []) ((47, 47) ∷ []) false false (outside_sub s.classes ((47, 47) ∷ []) rule.block_comment refl refl refl (outside_seq s.classes ((47, 47) ∷ []) false (outside_seq s.classes ((47, 47) ∷ []) false (outside_text s.classes)))) (outside_sub s.classes ((47, 47) ∷ []) rule.line_comment refl refl refl (outside_seq s.classes ((47, 47) ∷ []) false (outside_seq s.classes ((47, 47) ∷ []) false (outside_text s.classes))))))) refl refl refl)) (tries s 532 534 534 533 refl (enters s rule.COMMENT 191 192 at_COMMENT_atomic_apart refl refl refl refl refl) (between s) (many s 535 (op.IsOne 0 535 533) refl (λ c z. z) (tight_between s) refl (inl (tested s 0 (outside_sub s.classes ((32, 32) ∷ (9, 9) ∷ (10, 10) ∷ (13, 13) ∷ []) rule.WHITESPACE refl refl refl (outside_choice s.classes ((32, 32) ∷ (9, 9) ∷ []) ((10, 10) ∷ (13, 13) ∷ []) false false (outside_set s.classes (one_of_two s.classes (one_text s.classes 32) (one_text s.classes 9))) (outside_sub s.classes ((10, 10) ∷ (13, 13) ∷ []) rule.newline refl refl refl (outside_choice s.classes ((10, 10) ∷ []) ((13, 13) ∷ []) false false (outside_set s.classes (one_text s.classes 10)) (outside_text s.classes))))) refl refl refl)) (within s rule.WHITESPACE refl refl refl (either s 536 535 537 refl (at_once s) (one_of s 1 (one_of_two s.classes (one_text s.classes 32) (one_text s.classes 9)) refl refl refl) (tested s 2 (outside_sub s.classes ((10, 10) ∷ (13, 13) ∷ []) rule.newline refl refl refl (outside_choice s.classes ((10, 10) ∷ []) ((13, 13) ∷ []) false false (outside_set s.classes (one_text s.classes 10)) (outside_text s.classes))) refl refl refl) (within s rule.newline refl refl refl (either s 538 537 538 refl (at_once s) (word s 30 refl refl refl) (at_once s) (word s 31 refl refl refl)))))) refl)))) (within s rule.prefix_operator refl refl refl (either s 539 540 539 refl (noted s 20 541 refl (outside_call s.classes ((38, 38) ∷ []) false rule.positive_predicate_operator refl refl refl (outside_set s.classes (one_text s.classes 38))) refl refl refl refl) (calls s rule.positive_predicate_operator 117 118 at_positive_predicate_operator_plain refl refl refl refl refl) (at_once s) (calls s rule.negative_predicate_operator 119 120 at_negative_predicate_operator_plain refl refl refl refl refl))) refl)) (trivia_in_place s (seq 542 542 (many s 543 (op.IsOne 0 543 542) refl (λ c z. z) (tight_between s) refl (inl (tested s 0 (outside_sub s.classes ((32, 32) ∷ (9, 9) ∷ (10, 10) ∷ (13, 13) ∷ []) rule.WHITESPACE refl refl refl (outside_choice s.classes ((32, 32) ∷ (9, 9) ∷ []) ((10, 10) ∷ (13, 13) ∷ []) false false (outside_set s.classes (one_of_two s.classes (one_text s.classes 32) (one_text s.classes 9))) (outside_sub s.classes ((10, 10) ∷ (13, 13) ∷ []) rule.newline refl refl refl (outside_choice s.classes ((10, 10) ∷ []) ((13, 13) ∷ []) false false (outside_set s.classes (one_text s.classes 10)) (outside_text s.classes))))) refl refl refl)) (within s rule.WHITESPACE refl refl refl (either s 544 543 545 refl (at_once s) (one_of s 1 (one_of_two s.classes (one_text s.classes 32) (one_text s.classes 9)) refl refl refl) (tested s 2 (outside_sub s.classes ((10, 10) ∷ (13, 13) ∷ []) rule.newline refl refl refl (outside_choice s.classes ((10, 10) ∷ []) ((13, 13) ∷ []) false false (outside_set s.classes (one_text s.classes 10)) (outside_text s.classes))) refl refl refl) (within s rule.newline refl refl refl (either s 546 545 546 refl (at_once s) (word s 30 refl refl refl) (at_once s) (word s 31 refl refl refl)))))) (between s) (many s 547 (op.IsOne 3 547 485) refl (λ c z. z) (tight_between s) refl (inl (tested s 3 (outside_seq s.classes ((47, 47) ∷ (47, 47) ∷ []) false (outside_sub s.classes ((47, 47) ∷ (47, 47) ∷ []) rule.COMMENT refl refl refl (outside_choice s.classes ((47, 47) ∷ []) ((47, 47) ∷ []) false false (outside_sub s.classes ((47, 47) ∷ []) rule.block_comment refl refl refl (outside_seq s.classes ((47, 47) ∷ []) false (outside_seq s.classes ((47, 47) ∷ []) false (outside_text s.classes)))) (outside_sub s.classes ((47, 47) ∷ []) rule.line_comment refl refl refl (outside_seq s.classes ((47, 47) ∷ []) false (outside_seq s.classes ((47, 47) ∷ []) false (outside_text s.classes))))))) refl refl refl)) (tries s 548 550 550 549 refl (enters s rule.COMMENT 191 192 at_COMMENT_atomic_apart refl refl refl refl refl) (between s) (many s 551 (op.IsOne 0 551 549) refl (λ c z. z) (tight_between s) refl (inl (tested s 0 (outside_sub s.classes ((32, 32) ∷ (9, 9) ∷ (10, 10) ∷ (13, 13) ∷ []) rule.WHITESPACE refl refl refl (outside_choice s.classes ((32, 32) ∷ (9, 9) ∷ []) ((10, 10) ∷ (13, 13) ∷ []) false false (outside_set s.classes (one_of_two s.classes (one_text s.classes 32) (one_text s.classes 9))) (outside_sub s.classes ((10, 10) ∷ (13, 13) ∷ []) rule.newline refl refl refl (outside_choice s.classes ((10, 10) ∷ []) ((13, 13) ∷ []) false false (outside_set s.classes (one_text s.classes 10)) (outside_text s.classes))))) refl refl refl)) (within s rule.WHITESPACE refl refl refl (either s 552 551 553 refl (at_once s) (one_of s 1 (one_of_two s.classes (one_text s.classes 32) (one_text s.classes 9)) refl refl refl) (tested s 2 (outside_sub s.classes ((10, 10) ∷ (13, 13) ∷ []) rule.newline refl refl refl (outside_choice s.classes ((10, 10) ∷ []) ((13, 13) ∷ []) false false (outside_set s.classes (one_text s.classes 10)) (outside_text s.classes))) refl refl refl) (within s rule.newline refl refl refl (either s 554 553 554 refl (at_once s) (word s 30 refl refl refl) (at_once s) (word s 31 refl refl refl)))))) refl)))) (within s rule.node refl refl refl (either s 555 556 555 refl (noted s 21 557 refl (outside_seq s.classes ((40, 40) ∷ []) true (outside_seq s.classes ((40, 40) ∷ []) true (outside_call s.classes ((40, 40) ∷ []) false rule.opening_paren refl refl refl (outside_set s.classes (one_text s.classes 40))))) refl refl refl refl) (tries s 558 560 561 559 refl (seq 562 563 (calls s rule.opening_paren 81 82 at_opening_paren_plain refl refl refl refl refl) (trivia_in_place s (seq 564 564 (many s 565 (op.IsOne 0 565 564) refl (λ c z. z) (tight_between s) refl (inl (tested s 0 (outside_sub s.classes ((32, 32) ∷ (9, 9) ∷ (10, 10) ∷ (13, 13) ∷ []) rule.WHITESPACE refl refl refl (outside_choice s.classes ((32, 32) ∷ (9, 9) ∷ []) ((10, 10) ∷ (13, 13) ∷ []) false false (outside_set s.classes (one_of_two s.classes (one_text s.classes 32) (one_text s.classes 9))) (outside_sub s.classes ((10, 10) ∷ (13, 13) ∷ []) rule.newline refl refl refl (outside_choice s.classes ((10, 10) ∷ []) ((13, 13) ∷ []) false false (outside_set s.classes (one_text s.classes 10)) (outside_text s.classes))))) refl refl refl)) (within s rule.WHITESPACE refl refl refl (either s 566 565 567 refl (at_once s) (one_of s 1 (one_of_two s.classes (one_text s.classes 32) (one_text s.classes 9)) refl refl refl) (tested s 2 (outside_sub s.classes ((10, 10) ∷ (13, 13) ∷ []) rule.newline refl refl refl (outside_choice s.classes ((10, 10) ∷ []) ((13, 13) ∷ []) false false (outside_set s.classes (one_text s.classes 10)) (outside_text s.classes))) refl refl refl) (within s rule.newline refl refl refl (either s 568 567 568 refl (at_once s) (word s 30 refl refl refl) (at_once s) (word s 31 refl refl refl)))))) (between s) (many s 569 (op.IsOne 3 569 563) refl (λ c z. z) (tight_between s) refl (inl (tested s 3 (outside_seq s.classes ((47, 47) ∷ (47, 47) ∷ []) false (outside_sub s.classes ((47, 47) ∷ (47, 47) ∷ []) rule.COMMENT refl refl refl (outside_choice s.classes ((47, 47) ∷ []) ((47, 47) ∷ []) false false (outside_sub s.classes ((47, 47) ∷ []) rule.block_comment refl refl refl (outside_seq s.classes ((47, 47) ∷ []) false (outside_seq s.classes ((47, 47) ∷ []) false (outside_text s.classes)))) (outside_sub s.classes ((47, 47) ∷ []) rule.line_comment refl refl refl (outside_seq s.classes ((47, 47) ∷ []) false (outside_seq s.classes ((47, 47) ∷ []) false (outside_text s.classes))))))) refl refl refl)) (tries s 570 572 572 571 refl (enters s rule.COMMENT 191 192 at_COMMENT_atomic_apart refl refl refl refl refl) (between s) (many s 573 (op.IsOne 0 573 571) refl (λ c z. z) (tight_between s) refl (inl (tested s 0 (outside_sub s.classes ((32, 32) ∷ (9, 9) ∷ (10, 10) ∷ (13, 13) ∷ []) rule.WHITESPACE refl refl refl (outside_choice s.classes ((32, 32) ∷ (9, 9) ∷ []) ((10, 10) ∷ (13, 13) ∷ []) false false (outside_set s.classes (one_of_two s.classes (one_text s.classes 32) (one_text s.classes 9))) (outside_sub s.classes ((10, 10) ∷ (13, 13) ∷ []) rule.newline refl refl refl (outside_choice s.classes ((10, 10) ∷ []) ((13, 13) ∷ []) false false (outside_set s.classes (one_text s.classes 10)) (outside_text s.classes))))) refl refl refl)) (within s rule.WHITESPACE refl refl refl (either s 574 573 575 refl (at_once s) (one_of s 1 (one_of_two s.classes (one_text s.classes 32) (one_text s.classes 9)) refl refl refl) (tested s 2 (outside_sub s.classes ((10, 10) ∷ (13, 13) ∷ []) rule.newline refl refl refl (outside_choice s.classes ((10, 10) ∷ []) ((13, 13) ∷ []) false false (outside_set s.classes (one_text s.classes 10)) (outside_text s.classes))) refl refl refl) (within s rule.newline refl refl refl (either s 576 575 576 refl (at_once s) (word s 30 refl refl refl) (at_once s) (word s 31 refl refl refl)))))) refl)))) (calls s rule.expression 103 104 at_expression_plain refl refl refl refl refl)) (trivia_in_place s (seq 577 577 (many s 578 (op.IsOne 0 578 577) refl (λ c z. z) (tight_between s) refl (inl (tested s 0 (outside_sub s.classes ((32, 32) ∷ (9, 9) ∷ (10, 10) ∷ (13, 13) ∷ []) rule.WHITESPACE refl refl refl (outside_choice s.classes ((32, 32) ∷ (9, 9) ∷ []) ((10, 10) ∷ (13, 13) ∷ []) false false (outside_set s.classes (one_of_two s.classes (one_text s.classes 32) (one_text s.classes 9))) (outside_sub s.classes ((10, 10) ∷ (13, 13) ∷ []) rule.newline refl refl refl (outside_choice s.classes ((10, 10) ∷ []) ((13, 13) ∷ []) false false (outside_set s.classes (one_text s.classes 10)) (outside_text s.classes))))) refl refl refl)) (within s rule.WHITESPACE refl refl refl (either s 579 578 580 refl (at_once s) (one_of s 1 (one_of_two s.classes (one_text s.classes 32) (one_text s.classes 9)) refl refl refl) (tested s 2 (outside_sub s.classes ((10, 10) ∷ (13, 13) ∷ []) rule.newline refl refl refl (outside_choice s.classes ((10, 10) ∷ []) ((13, 13) ∷ []) false false (outside_set s.classes (one_text s.classes 10)) (outside_text s.classes))) refl refl refl) (within s rule.newline refl refl refl (either s 581 580 581 refl (at_once s) (word s 30 refl refl refl) (at_once s) (word s 31 refl refl refl)))))) (between s) (many s 582 (op.IsOne 3 582 561) refl (λ c z. z) (tight_between s) refl (inl (tested s 3 (outside_seq s.classes ((47, 47) ∷ (47, 47) ∷ []) false (outside_sub s.classes ((47, 47) ∷ (47, 47) ∷ []) rule.COMMENT refl refl refl (outside_choice s.classes ((47, 47) ∷ []) ((47, 47) ∷ []) false false (outside_sub s.classes ((47, 47) ∷ []) rule.block_comment refl refl refl (outside_seq s.classes ((47, 47) ∷ []) false (outside_seq s.classes ((47, 47) ∷ []) false (outside_text s.classes)))) (outside_sub s.classes ((47, 47) ∷ []) rule.line_comment refl refl refl (outside_seq s.classes ((47, 47) ∷ []) false (outside_seq s.classes ((47, 47) ∷ []) false (outside_text s.classes))))))) refl refl refl)) (tries s 583 585 585 584 refl (enters s rule.COMMENT 191 192 at_COMMENT_atomic_apart refl refl refl refl refl) (between s) (many s 586 (op.IsOne 0 586 584) refl (λ c z. z) (tight_between s) refl (inl (tested s 0 (outside_sub s.classes ((32, 32) ∷ (9, 9) ∷ (10, 10) ∷ (13, 13) ∷ []) rule.WHITESPACE refl refl refl (outside_choice s.classes ((32, 32) ∷ (9, 9) ∷ []) ((10, 10) ∷ (13, 13) ∷ []) false false (outside_set s.classes (one_of_two s.classes (one_text s.classes 32) (one_text s.classes 9))) (outside_sub s.classes ((10, 10) ∷ (13, 13) ∷ []) rule.newline refl refl refl (outside_choice s.classes ((10, 10) ∷ []) ((13, 13) ∷ []) false false (outside_set s.classes (one_text s.classes 10)) (outside_text s.classes))))) refl refl refl)) (within s rule.WHITESPACE refl refl refl (either s 587 586 588 refl (at_once s) (one_of s 1 (one_of_two s.classes (one_text s.classes 32) (one_text s.classes 9)) refl refl refl) (tested s 2 (outside_sub s.classes ((10, 10) ∷ (13, 13) ∷ []) rule.newline refl refl refl (outside_choice s.classes ((10, 10) ∷ []) ((13, 13) ∷ []) false false (outside_set s.classes (one_text s.classes 10)) (outside_text s.classes))) refl refl refl) (within s rule.newline refl refl refl (either s 589 588 589 refl (at_once s) (word s 30 refl refl refl) (at_once s) (word s 31 refl refl refl)))))) refl)))) (calls s rule.closing_paren 83 84 at_closing_paren_plain refl refl refl refl refl) refl) (at_once s) (within s rule.terminal refl refl refl (either s 590 591 590 refl (noted s 22 592 refl (outside_choice s.classes ((80, 80) ∷ (80, 80) ∷ (80, 80) ∷ (95, 95) ∷ (97, 122) ∷ (65, 90) ∷ (34, 34) ∷ []) ((94, 94) ∷ []) true true (outside_choice s.classes ((80, 80) ∷ (80, 80) ∷ (80, 80) ∷ (95, 95) ∷ (97, 122) ∷ (65, 90) ∷ []) ((34, 34) ∷ []) true true (outside_choice s.classes ((80, 80) ∷ (80, 80) ∷ (80, 80) ∷ []) ((95, 95) ∷ (97, 122) ∷ (65, 90) ∷ []) true true (outside_choice s.classes ((80, 80) ∷ (80, 80) ∷ []) ((80, 80) ∷ []) true true (outside_choice s.classes ((80, 80) ∷ []) ((80, 80) ∷ []) true true (outside_call s.classes ((80, 80) ∷ []) false rule._push_literal refl refl refl (outside_seq s.classes ((80, 80) ∷ []) false (outside_seq s.classes ((80, 80) ∷ []) false (outside_seq s.classes ((80, 80) ∷ []) false (outside_text s.classes))))) (outside_call s.classes ((80, 80) ∷ []) false rule._push refl refl refl (outside_seq s.classes ((80, 80) ∷ []) false (outside_seq s.classes ((80, 80) ∷ []) false (outside_seq s.classes ((80, 80) ∷ []) false (outside_text s.classes)))))) (outside_call s.classes ((80, 80) ∷ []) false rule.peek_slice refl refl refl (outside_seq s.classes ((80, 80) ∷ []) false (outside_seq s.classes ((80, 80) ∷ []) false (outside_seq s.classes ((80, 80) ∷ []) false (outside_seq s.classes ((80, 80) ∷ []) false (outside_seq s.classes ((80, 80) ∷ []) false (outside_text s.classes)))))))) (outside_call s.classes ((95, 95) ∷ (97, 122) ∷ (65, 90) ∷ []) false rule.identifier refl refl refl (outside_seq s.classes ((95, 95) ∷ (97, 122) ∷ (65, 90) ∷ []) false (outside_not s.classes ((95, 95) ∷ (97, 122) ∷ (65, 90) ∷ []) (tight_atomic s) (outside_set s.classes (one_of_two s.classes (one_text s.classes 95) (one_called s.classes rule.alpha refl refl refl (one_of_two s.classes (one_range s.classes 97 122) (one_range s.classes 65 90))))))))) (outside_call s.classes ((34, 34) ∷ []) true rule.string refl refl refl (outside_seq s.classes ((34, 34) ∷ []) true (outside_seq s.classes ((34, 34) ∷ []) true (outside_call s.classes ((34, 34) ∷ []) false rule.quote refl refl refl (outside_set s.classes (one_text s.classes 34))))))) (outside_call s.classes ((94, 94) ∷ []) false rule.insensitive_string refl refl refl (outside_seq s.classes ((94, 94) ∷ []) false (outside_set s.classes (one_text s.classes 94))))) refl refl refl refl) (either s 593 594 616 refl (noted s 23 595 refl (outside_choice s.classes ((80, 80) ∷ (80, 80) ∷ (80, 80) ∷ (95, 95) ∷ (97, 122) ∷ (65, 90) ∷ []) ((34, 34) ∷ []) true true (outside_choice s.classes ((80, 80) ∷ (80, 80) ∷ (80, 80) ∷ []) ((95, 95) ∷ (97, 122) ∷ (65, 90) ∷ []) true true (outside_choice s.classes ((80, 80) ∷ (80, 80) ∷ []) ((80, 80) ∷ []) true true (outside_choice s.classes ((80, 80) ∷ []) ((80, 80) ∷ []) true true (outside_call s.classes ((80, 80) ∷ []) false rule._push_literal refl refl refl (outside_seq s.classes ((80, 80) ∷ []) false (outside_seq s.classes ((80, 80) ∷ []) false (outside_seq s.classes ((80, 80) ∷ []) false (outside_text s.classes))))) (outside_call s.classes ((80, 80) ∷ []) false rule._push refl refl refl (outside_seq s.classes ((80, 80) ∷ []) false (outside_seq s.classes ((80, 80) ∷ []) false (outside_seq s.classes ((80, 80) ∷ []) false (outside_text s.classes)))))) (outside_call s.classes ((80, 80) ∷ []) false rule.peek_slice refl refl refl (outside_seq s.classes ((80, 80) ∷ []) false (outside_seq s.classes ((80, 80) ∷ []) false (outside_seq s.classes ((80, 80) ∷ []) false (outside_seq s.classes ((80, 80) ∷ []) false (outside_seq s.classes ((80, 80) ∷ []) false (outside_text s.classes)))))))) (outside_call s.classes ((95, 95) ∷ (97, 122) ∷ (65, 90) ∷ []) false rule.identifier refl refl refl (outside_seq s.classes ((95, 95) ∷ (97, 122) ∷ (65, 90) ∷ []) false (outside_not s.classes ((95, 95) ∷ (97, 122) ∷ (65, 90) ∷ []) (tight_atomic s) (outside_set s.classes (one_of_two s.classes (one_text s.classes 95) (one_called s.classes rule.alpha refl refl refl (one_of_two s.classes (one_range s.classes 97 122) (one_range s.classes 65 90))))))))) (outside_call s.classes ((34, 34) ∷ []) true rule.string refl refl refl (outside_seq s.classes ((34, 34) ∷ []) true (outside_seq s.classes ((34, 34) ∷ []) true (outside_call s.classes ((34, 34) ∷ []) false rule.quote refl refl refl (outside_set s.classes (one_text s.classes 34))))))) refl refl refl refl) (either s 596 597 614 refl (noted s 24 598 refl (outside_choice s.classes ((80, 80) ∷ (80, 80) ∷ (80, 80) ∷ []) ((95, 95) ∷ (97, 122) ∷ (65, 90) ∷ []) true true (outside_choice s.classes ((80, 80) ∷ (80, 80) ∷ []) ((80, 80) ∷ []) true true (outside_choice s.classes ((80, 80) ∷ []) ((80, 80) ∷ []) true true (outside_call s.classes ((80, 80) ∷ []) false rule._push_literal refl refl refl (outside_seq s.classes ((80, 80) ∷ []) false (outside_seq s.classes ((80, 80) ∷ []) false (outside_seq s.classes ((80, 80) ∷ []) false (outside_text s.classes))))) (outside_call s.classes ((80, 80) ∷ []) false rule._push refl refl refl (outside_seq s.classes ((80, 80) ∷ []) false (outside_seq s.classes ((80, 80) ∷ []) false (outside_seq s.classes ((80, 80) ∷ []) false (outside_text s.classes)))))) (outside_call s.classes ((80, 80) ∷ []) false rule.peek_slice refl refl refl (outside_seq s.classes ((80, 80) ∷ []) false (outside_seq s.classes ((80, 80) ∷ []) false (outside_seq s.classes ((80, 80) ∷ []) false (outside_seq s.classes ((80, 80) ∷ []) false (outside_seq s.classes ((80, 80) ∷ []) false (outside_text s.classes)))))))) (outside_call s.classes ((95, 95) ∷ (97, 122) ∷ (65, 90) ∷ []) false rule.identifier refl refl refl (outside_seq s.classes ((95, 95) ∷ (97, 122) ∷ (65, 90) ∷ []) false (outside_not s.classes ((95, 95) ∷ (97, 122) ∷ (65, 90) ∷ []) (tight_atomic s) (outside_set s.classes (one_of_two s.classes (one_text s.classes 95) (one_called s.classes rule.alpha refl refl refl (one_of_two s.classes (one_range s.classes 97 122) (one_range s.classes 65 90))))))))) refl refl refl refl) (either s 599 600 612 refl (noted s 25 601 refl (outside_choice s.classes ((80, 80) ∷ (80, 80) ∷ []) ((80, 80) ∷ []) true true (outside_choice s.classes ((80, 80) ∷ []) ((80, 80) ∷ []) true true (outside_call s.classes ((80, 80) ∷ []) false rule._push_literal refl refl refl (outside_seq s.classes ((80, 80) ∷ []) false (outside_seq s.classes ((80, 80) ∷ []) false (outside_seq s.classes ((80, 80) ∷ []) false (outside_text s.classes))))) (outside_call s.classes ((80, 80) ∷ []) false rule._push refl refl refl (outside_seq s.classes ((80, 80) ∷ []) false (outside_seq s.classes ((80, 80) ∷ []) false (outside_seq s.classes ((80, 80) ∷ []) false (outside_text s.classes)))))) (outside_call s.classes ((80, 80) ∷ []) false rule.peek_slice refl refl refl (outside_seq s.classes ((80, 80) ∷ []) false (outside_seq s.classes ((80, 80) ∷ []) false (outside_seq s.classes ((80, 80) ∷ []) false (outside_seq s.classes ((80, 80) ∷ []) false (outside_seq s.classes ((80, 80) ∷ []) false (outside_text s.classes)))))))) refl refl refl refl) (either s 602 603 610 refl (noted s 26 604 refl (outside_choice s.classes ((80, 80) ∷ []) ((80, 80) ∷ []) true true (outside_call s.classes ((80, 80) ∷ []) false rule._push_literal refl refl refl (outside_seq s.classes ((80, 80) ∷ []) false (outside_seq s.classes ((80, 80) ∷ []) false (outside_seq s.classes ((80, 80) ∷ []) false (outside_text s.classes))))) (outside_call s.classes ((80, 80) ∷ []) false rule._push refl refl refl (outside_seq s.classes ((80, 80) ∷ []) false (outside_seq s.classes ((80, 80) ∷ []) false (outside_seq s.classes ((80, 80) ∷ []) false (outside_text s.classes)))))) refl refl refl refl) (either s 605 606 608 refl (noted s 27 607 refl (outside_call s.classes ((80, 80) ∷ []) false rule._push_literal refl refl refl (outside_seq s.classes ((80, 80) ∷ []) false (outside_seq s.classes ((80, 80) ∷ []) false (outside_seq s.classes ((80, 80) ∷ []) false (outside_text s.classes))))) refl refl refl refl) (calls s rule._push_literal 147 148 at_push_literal__plain refl refl refl refl refl) (noted s 27 609 refl (outside_call s.classes ((80, 80) ∷ []) false rule._push refl refl refl (outside_seq s.classes ((80, 80) ∷ []) false (outside_seq s.classes ((80, 80) ∷ []) false (outside_seq s.classes ((80, 80) ∷ []) false (outside_text s.classes))))) refl refl refl refl) (calls s rule._push 145 146 at_push__plain refl refl refl refl refl)) (noted s 27 611 refl (outside_call s.classes ((80, 80) ∷ []) false rule.peek_slice refl refl refl (outside_seq s.classes ((80, 80) ∷ []) false (outside_seq s.classes ((80, 80) ∷ []) false (outside_seq s.classes ((80, 80) ∷ []) false (outside_seq s.classes ((80, 80) ∷ []) false (outside_seq s.classes ((80, 80) ∷ []) false (outside_text s.classes))))))) refl refl refl refl) (calls s rule.peek_slice 149 150 at_peek_slice_plain refl refl refl refl refl)) (noted s 6 613 refl (outside_call s.classes ((95, 95) ∷ (97, 122) ∷ (65, 90) ∷ []) false rule.identifier refl refl refl (outside_seq s.classes ((95, 95) ∷ (97, 122) ∷ (65, 90) ∷ []) false (outside_not s.classes ((95, 95) ∷ (97, 122) ∷ (65, 90) ∷ []) (tight_atomic s) (outside_set s.classes (one_of_two s.classes (one_text s.classes 95) (one_called s.classes rule.alpha refl refl refl (one_of_two s.classes (one_range s.classes 97 122) (one_range s.classes 65 90)))))))) refl refl refl refl) (calls s rule.identifier 151 152 at_identifier_atomic refl refl refl refl refl)) (noted s 28 615 refl (outside_call s.classes ((34, 34) ∷ []) true rule.string refl refl refl (outside_seq s.classes ((34, 34) ∷ []) true (outside_seq s.classes ((34, 34) ∷ []) true (outside_call s.classes ((34, 34) ∷ []) false rule.quote refl refl refl (outside_set s.classes (one_text s.classes 34)))))) refl refl refl refl) (calls s rule.string 157 158 at_string_compound refl refl refl refl refl)) (noted s 29 617 refl (outside_call s.classes ((94, 94) ∷ []) false rule.insensitive_string refl refl refl (outside_seq s.classes ((94, 94) ∷ []) false (outside_set s.classes (one_text s.classes 94)))) refl refl refl refl) (calls s rule.insensitive_string 159 160 at_insensitive_string_plain refl refl refl refl refl)) (at_once s) (calls s rule.range 161 162 at_range_plain refl refl refl refl refl)))))) (trivia_in_place s (seq 618 618 (many s 619 (op.IsOne 0 619 618) refl (λ c z. z) (tight_between s) refl (inl (tested s 0 (outside_sub s.classes ((32, 32) ∷ (9, 9) ∷ (10, 10) ∷ (13, 13) ∷ []) rule.WHITESPACE refl refl refl (outside_choice s.classes ((32, 32) ∷ (9, 9) ∷ []) ((10, 10) ∷ (13, 13) ∷ []) false false (outside_set s.classes (one_of_two s.classes (one_text s.classes 32) (one_text s.classes 9))) (outside_sub s.classes ((10, 10) ∷ (13, 13) ∷ []) rule.newline refl refl refl (outside_choice s.classes ((10, 10) ∷ []) ((13, 13) ∷ []) false false (outside_set s.classes (one_text s.classes 10)) (outside_text s.classes))))) refl refl refl)) (within s rule.WHITESPACE refl refl refl (either s 620 619 621 refl (at_once s) (one_of s 1 (one_of_two s.classes (one_text s.classes 32) (one_text s.classes 9)) refl refl refl) (tested s 2 (outside_sub s.classes ((10, 10) ∷ (13, 13) ∷ []) rule.newline refl refl refl (outside_choice s.classes ((10, 10) ∷ []) ((13, 13) ∷ []) false false (outside_set s.classes (one_text s.classes 10)) (outside_text s.classes))) refl refl refl) (within s rule.newline refl refl refl (either s 622 621 622 refl (at_once s) (word s 30 refl refl refl) (at_once s) (word s 31 refl refl refl)))))) (between s) (many s 623 (op.IsOne 3 623 483) refl (λ c z. z) (tight_between s) refl (inl (tested s 3 (outside_seq s.classes ((47, 47) ∷ (47, 47) ∷ []) false (outside_sub s.classes ((47, 47) ∷ (47, 47) ∷ []) rule.COMMENT refl refl refl (outside_choice s.classes ((47, 47) ∷ []) ((47, 47) ∷ []) false false (outside_sub s.classes ((47, 47) ∷ []) rule.block_comment refl refl refl (outside_seq s.classes ((47, 47) ∷ []) false (outside_seq s.classes ((47, 47) ∷ []) false (outside_text s.classes)))) (outside_sub s.classes ((47, 47) ∷ []) rule.line_comment refl refl refl (outside_seq s.classes ((47, 47) ∷ []) false (outside_seq s.classes ((47, 47) ∷ []) false (outside_text s.classes))))))) refl refl refl)) (tries s 624 626 626 625 refl (enters s rule.COMMENT 191 192 at_COMMENT_atomic_apart refl refl refl refl refl) (between s) (many s 627 (op.IsOne 0 627 625) refl (λ c z. z) (tight_between s) refl (inl (tested s 0 (outside_sub s.classes ((32, 32) ∷ (9, 9) ∷ (10, 10) ∷ (13, 13) ∷ []) rule.WHITESPACE refl refl refl (outside_choice s.classes ((32, 32) ∷ (9, 9) ∷ []) ((10, 10) ∷ (13, 13) ∷ []) false false (outside_set s.classes (one_of_two s.classes (one_text s.classes 32) (one_text s.classes 9))) (outside_sub s.classes ((10, 10) ∷ (13, 13) ∷ []) rule.newline refl refl refl (outside_choice s.classes ((10, 10) ∷ []) ((13, 13) ∷ []) false false (outside_set s.classes (one_text s.classes 10)) (outside_text s.classes))))) refl refl refl)) (within s rule.WHITESPACE refl refl refl (either s 628 627 629 refl (at_once s) (one_of s 1 (one_of_two s.classes (one_text s.classes 32) (one_text s.classes 9)) refl refl refl) (tested s 2 (outside_sub s.classes ((10, 10) ∷ (13, 13) ∷ []) rule.newline refl refl refl (outside_choice s.classes ((10, 10) ∷ []) ((13, 13) ∷ []) false false (outside_set s.classes (one_text s.classes 10)) (outside_text s.classes))) refl refl refl) (within s rule.newline refl refl refl (either s 630 629 630 refl (at_once s) (word s 30 refl refl refl) (at_once s) (word s 31 refl refl refl)))))) refl)))) (turns s 631 633 634 635 636 refl (noted s 30 632 refl (outside_silent s.classes ((63, 63) ∷ (42, 42) ∷ (43, 43) ∷ (123, 123) ∷ (123, 123) ∷ (123, 123) ∷ (123, 123) ∷ []) rule.postfix_operator refl refl refl (outside_choice s.classes ((63, 63) ∷ (42, 42) ∷ (43, 43) ∷ (123, 123) ∷ (123, 123) ∷ (123, 123) ∷ []) ((123, 123) ∷ []) true true (outside_choice s.classes ((63, 63) ∷ (42, 42) ∷ (43, 43) ∷ (123, 123) ∷ (123, 123) ∷ []) ((123, 123) ∷ []) true true (outside_choice s.classes ((63, 63) ∷ (42, 42) ∷ (43, 43) ∷ (123, 123) ∷ []) ((123, 123) ∷ []) true true (outside_choice s.classes ((63, 63) ∷ (42, 42) ∷ (43, 43) ∷ []) ((123, 123) ∷ []) true true (outside_choice s.classes ((63, 63) ∷ (42, 42) ∷ []) ((43, 43) ∷ []) true true (outside_choice s.classes ((63, 63) ∷ []) ((42, 42) ∷ []) true true (outside_call s.classes ((63, 63) ∷ []) false rule.optional_operator refl refl refl (outside_set s.classes (one_text s.classes 63))) (outside_call s.classes ((42, 42) ∷ []) false rule.repeat_operator refl refl refl (outside_set s.classes (one_text s.classes 42)))) (outside_call s.classes ((43, 43) ∷ []) false rule.repeat_once_operator refl refl refl (outside_set s.classes (one_text s.classes 43)))) (outside_call s.classes ((123, 123) ∷ []) true rule.repeat_exact refl refl refl (outside_seq s.classes ((123, 123) ∷ []) true (outside_seq s.classes ((123, 123) ∷ []) true (outside_call s.classes ((123, 123) ∷ []) false rule.opening_brace refl refl refl (outside_set s.classes (one_text s.classes 123))))))) (outside_call s.classes ((123, 123) ∷ []) true rule.repeat_min refl refl refl (outside_seq s.classes ((123, 123) ∷ []) true (outside_seq s.classes ((123, 123) ∷ []) true (outside_seq s.classes ((123, 123) ∷ []) true (outside_call s.classes ((123, 123) ∷ []) false rule.opening_brace refl refl refl (outside_set s.classes (one_text s.classes 123)))))))) (outside_call s.classes ((123, 123) ∷ []) true rule.repeat_max refl refl refl (outside_seq s.classes ((123, 123) ∷ []) true (outside_seq s.classes ((123, 123) ∷ []) true (outside_seq s.classes ((123, 123) ∷ []) true (outside_call s.classes ((123, 123) ∷ []) false rule.opening_brace refl refl refl (outside_set s.classes (one_text s.classes 123)))))))) (outside_call s.classes ((123, 123) ∷ []) true rule.repeat_min_max refl refl refl (outside_seq s.classes ((123, 123) ∷ []) true (outside_seq s.classes ((123, 123) ∷ []) true (outside_seq s.classes ((123, 123) ∷ []) true (outside_seq s.classes ((123, 123) ∷ []) true (outside_call s.classes ((123, 123) ∷ []) false rule.opening_brace refl refl refl (outside_set s.classes (one_text s.classes 123)))))))))) refl refl refl refl) refl refl (trivia_in_place s (seq 637 637 (many s 638 (op.IsOne 0 638 637) refl (λ c z. z) (tight_between s) refl (inl (tested s 0 (outside_sub s.classes ((32, 32) ∷ (9, 9) ∷ (10, 10) ∷ (13, 13) ∷ []) rule.WHITESPACE refl refl refl (outside_choice s.classes ((32, 32) ∷ (9, 9) ∷ []) ((10, 10) ∷ (13, 13) ∷ []) false false (outside_set s.classes (one_of_two s.classes (one_text s.classes 32) (one_text s.classes 9))) (outside_sub s.classes ((10, 10) ∷ (13, 13) ∷ []) rule.newline refl refl refl (outside_choice s.classes ((10, 10) ∷ []) ((13, 13) ∷ []) false false (outside_set s.classes (one_text s.classes 10)) (outside_text s.classes))))) refl refl refl)) (within s rule.WHITESPACE refl refl refl (either s 639 638 640 refl (at_once s) (one_of s 1 (one_of_two s.classes (one_text s.classes 32) (one_text s.classes 9)) refl refl refl) (tested s 2 (outside_sub s.classes ((10, 10) ∷ (13, 13) ∷ []) rule.newline refl refl refl (outside_choice s.classes ((10, 10) ∷ []) ((13, 13) ∷ []) false false (outside_set s.classes (one_text s.classes 10)) (outside_text s.classes))) refl refl refl) (within s rule.newline refl refl refl (either s 641 640 641 refl (at_once s) (word s 30 refl refl refl) (at_once s) (word s 31 refl refl refl)))))) (between s) (many s 642 (op.IsOne 3 642 635) refl (λ c z. z) (tight_between s) refl (inl (tested s 3 (outside_seq s.classes ((47, 47) ∷ (47, 47) ∷ []) false (outside_sub s.classes ((47, 47) ∷ (47, 47) ∷ []) rule.COMMENT refl refl refl (outside_choice s.classes ((47, 47) ∷ []) ((47, 47) ∷ []) false false (outside_sub s.classes ((47, 47) ∷ []) rule.block_comment refl refl refl (outside_seq s.classes ((47, 47) ∷ []) false (outside_seq s.classes ((47, 47) ∷ []) false (outside_text s.classes)))) (outside_sub s.classes ((47, 47) ∷ []) rule.line_comment refl refl refl (outside_seq s.classes ((47, 47) ∷ []) false (outside_seq s.classes ((47, 47) ∷ []) false (outside_text s.classes))))))) refl refl refl)) (tries s 643 645 645 644 refl (enters s rule.COMMENT 191 192 at_COMMENT_atomic_apart refl refl refl refl refl) (between s) (many s 646 (op.IsOne 0 646 644) refl (λ c z. z) (tight_between s) refl (inl (tested s 0 (outside_sub s.classes ((32, 32) ∷ (9, 9) ∷ (10, 10) ∷ (13, 13) ∷ []) rule.WHITESPACE refl refl refl (outside_choice s.classes ((32, 32) ∷ (9, 9) ∷ []) ((10, 10) ∷ (13, 13) ∷ []) false false (outside_set s.classes (one_of_two s.classes (one_text s.classes 32) (one_text s.classes 9))) (outside_sub s.classes ((10, 10) ∷ (13, 13) ∷ []) rule.newline refl refl refl (outside_choice s.classes ((10, 10) ∷ []) ((13, 13) ∷ []) false false (outside_set s.classes (one_text s.classes 10)) (outside_text s.classes))))) refl refl refl)) (within s rule.WHITESPACE refl refl refl (either s 647 646 648 refl (at_once s) (one_of s 1 (one_of_two s.classes (one_text s.classes 32) (one_text s.classes 9)) refl refl refl) (tested s 2 (outside_sub s.classes ((10, 10) ∷ (13, 13) ∷ []) rule.newline refl refl refl (outside_choice s.classes ((10, 10) ∷ []) ((13, 13) ∷ []) false false (outside_set s.classes (one_text s.classes 10)) (outside_text s.classes))) refl refl refl) (within s rule.newline refl refl refl (either s 649 648 649 refl (at_once s) (word s 30 refl refl refl) (at_once s) (word s 31 refl refl refl)))))) refl)))) (within s rule.postfix_operator refl refl refl (either s 650 651 650 refl (noted s 31 652 refl (outside_choice s.classes ((63, 63) ∷ (42, 42) ∷ (43, 43) ∷ (123, 123) ∷ (123, 123) ∷ []) ((123, 123) ∷ []) true true (outside_choice s.classes ((63, 63) ∷ (42, 42) ∷ (43, 43) ∷ (123, 123) ∷ []) ((123, 123) ∷ []) true true (outside_choice s.classes ((63, 63) ∷ (42, 42) ∷ (43, 43) ∷ []) ((123, 123) ∷ []) true true (outside_choice s.classes ((63, 63) ∷ (42, 42) ∷ []) ((43, 43) ∷ []) true true (outside_choice s.classes ((63, 63) ∷ []) ((42, 42) ∷ []) true true (outside_call s.classes ((63, 63) ∷ []) false rule.optional_operator refl refl refl (outside_set s.classes (one_text s.classes 63))) (outside_call s.classes ((42, 42) ∷ []) false rule.repeat_operator refl refl refl (outside_set s.classes (one_text s.classes 42)))) (outside_call s.classes ((43, 43) ∷ []) false rule.repeat_once_operator refl refl refl (outside_set s.classes (one_text s.classes 43)))) (outside_call s.classes ((123, 123) ∷ []) true rule.repeat_exact refl refl refl (outside_seq s.classes ((123, 123) ∷ []) true (outside_seq s.classes ((123, 123) ∷ []) true (outside_call s.classes ((123, 123) ∷ []) false rule.opening_brace refl refl refl (outside_set s.classes (one_text s.classes 123))))))) (outside_call s.classes ((123, 123) ∷ []) true rule.repeat_min refl refl refl (outside_seq s.classes ((123, 123) ∷ []) true (outside_seq s.classes ((123, 123) ∷ []) true (outside_seq s.classes ((123, 123) ∷ []) true (outside_call s.classes ((123, 123) ∷ []) false rule.opening_brace refl refl refl (outside_set s.classes (one_text s.classes 123)))))))) (outside_call s.classes ((123, 123) ∷ []) true rule.repeat_max refl refl refl (outside_seq s.classes ((123, 123) ∷ []) true (outside_seq s.classes ((123, 123) ∷ []) true (outside_seq s.classes ((123, 123) ∷ []) true (outside_call s.classes ((123, 123) ∷ []) false rule.opening_brace refl refl refl (outside_set s.classes (one_text s.classes 123)))))))) refl refl refl refl) (either s 653 654 676 refl (noted s 32 655 refl (outside_choice s.classes ((63, 63) ∷ (42, 42) ∷ (43, 43) ∷ (123, 123) ∷ []) ((123, 123) ∷ []) true true (outside_choice s.classes ((63, 63) ∷ (42, 42) ∷ (43, 43) ∷ []) ((123, 123) ∷ []) true true (outside_choice s.classes ((63, 63) ∷ (42, 42) ∷ []) ((43, 43) ∷ []) true true (outside_choice s.classes ((63, 63) ∷ []) ((42, 42) ∷ []) true true (outside_call s.classes ((63, 63) ∷ []) false rule.optional_operator refl refl refl (outside_set s.classes (one_text s.classes 63))) (outside_call s.classes ((42, 42) ∷ []) false rule.repeat_operator refl refl refl (outside_set s.classes (one_text s.classes 42)))) (outside_call s.classes ((43, 43) ∷ []) false rule.repeat_once_operator refl refl refl (outside_set s.classes (one_text s.classes 43)))) (outside_call s.classes ((123, 123) ∷ []) true rule.repeat_exact refl refl refl (outside_seq s.classes ((123, 123) ∷ []) true (outside_seq s.classes ((123, 123) ∷ []) true (outside_call s.classes ((123, 123) ∷ []) false rule.opening_brace refl refl refl (outside_set s.classes (one_text s.classes 123))))))) (outside_call s.classes ((123, 123) ∷ []) true rule.repeat_min refl refl refl (outside_seq s.classes ((123, 123) ∷ []) true (outside_seq s.classes ((123, 123) ∷ []) true (outside_seq s.classes ((123, 123) ∷ []) true (outside_call s.classes ((123, 123) ∷ []) false rule.opening_brace refl refl refl (outside_set s.classes (one_text s.classes 123)))))))) refl refl refl refl) (either s 656 657 674 refl (noted s 33 658 refl (outside_choice s.classes ((63, 63) ∷ (42, 42) ∷ (43, 43) ∷ []) ((123, 123) ∷ []) true true (outside_choice s.classes ((63, 63) ∷ (42, 42) ∷ []) ((43, 43) ∷ []) true true (outside_choice s.classes ((63, 63) ∷ []) ((42, 42) ∷ []) true true (outside_call s.classes ((63, 63) ∷ []) false rule.optional_operator refl refl refl (outside_set s.classes (one_text s.classes 63))) (outside_call s.classes ((42, 42) ∷ []) false rule.repeat_operator refl refl refl (outside_set s.classes (one_text s.classes 42)))) (outside_call s.classes ((43, 43) ∷ []) false rule.repeat_once_operator refl refl refl (outside_set s.classes (one_text s.classes 43)))) (outside_call s.classes ((123, 123) ∷ []) true rule.repeat_exact refl refl refl (outside_seq s.classes ((123, 123) ∷ []) true (outside_seq s.classes ((123, 123) ∷ []) true (outside_call s.classes ((123, 123) ∷ []) false rule.opening_brace refl refl refl (outside_set s.classes (one_text s.classes 123))))))) refl refl refl refl) (either s 659 660 672 refl (noted s 34 661 refl (outside_choice s.classes ((63, 63) ∷ (42, 42) ∷ []) ((43, 43) ∷ []) true true (outside_choice s.classes ((63, 63) ∷ []) ((42, 42) ∷ []) true true (outside_call s.classes ((63, 63) ∷ []) false rule.optional_operator refl refl refl (outside_set s.classes (one_text s.classes 63))) (outside_call s.classes ((42, 42) ∷ []) false rule.repeat_operator refl refl refl (outside_set s.classes (one_text s.classes 42)))) (outside_call s.classes ((43, 43) ∷ []) false rule.repeat_once_operator refl refl refl (outside_set s.classes (one_text s.classes 43)))) refl refl refl refl) (either s 662 663 670 refl (noted s 35 664 refl (outside_choice s.classes ((63, 63) ∷ []) ((42, 42) ∷ []) true true (outside_call s.classes ((63, 63) ∷ []) false rule.optional_operator refl refl refl (outside_set s.classes (one_text s.classes 63))) (outside_call s.classes ((42, 42) ∷ []) false rule.repeat_operator refl refl refl (outside_set s.classes (one_text s.classes 42)))) refl refl refl refl) (either s 665 666 668 refl (noted s 36 667 refl (outside_call s.classes ((63, 63) ∷ []) false rule.optional_operator refl refl refl (outside_set s.classes (one_text s.classes 63))) refl refl refl refl) (calls s rule.optional_operator 125 126 at_optional_operator_plain refl refl refl refl refl) (noted s 37 669 refl (outside_call s.classes ((42, 42) ∷ []) false rule.repeat_operator refl refl refl (outside_set s.classes (one_text s.classes 42))) refl refl refl refl) (calls s rule.repeat_operator 127 128 at_repeat_operator_plain refl refl refl refl refl)) (noted s 38 671 refl (outside_call s.classes ((43, 43) ∷ []) false rule.repeat_once_operator refl refl refl (outside_set s.classes (one_text s.classes 43))) refl refl refl refl) (calls s rule.repeat_once_operator 129 130 at_repeat_once_operator_plain refl refl refl refl refl)) (noted s 39 673 refl (outside_call s.classes ((123, 123) ∷ []) true rule.repeat_exact refl refl refl (outside_seq s.classes ((123, 123) ∷ []) true (outside_seq s.classes ((123, 123) ∷ []) true (outside_call s.classes ((123, 123) ∷ []) false rule.opening_brace refl refl refl (outside_set s.classes (one_text s.classes 123)))))) refl refl refl refl) (calls s rule.repeat_exact 131 132 at_repeat_exact_plain refl refl refl refl refl)) (noted s 39 675 refl (outside_call s.classes ((123, 123) ∷ []) true rule.repeat_min refl refl refl (outside_seq s.classes ((123, 123) ∷ []) true (outside_seq s.classes ((123, 123) ∷ []) true (outside_seq s.classes ((123, 123) ∷ []) true (outside_call s.classes ((123, 123) ∷ []) false rule.opening_brace refl refl refl (outside_set s.classes (one_text s.classes 123))))))) refl refl refl refl) (calls s rule.repeat_min 133 134 at_repeat_min_plain refl refl refl refl refl)) (noted s 39 677 refl (outside_call s.classes ((123, 123) ∷ []) true rule.repeat_max refl refl refl (outside_seq s.classes ((123, 123) ∷ []) true (outside_seq s.classes ((123, 123) ∷ []) true (outside_seq s.classes ((123, 123) ∷ []) true (outside_call s.classes ((123, 123) ∷ []) false rule.opening_brace refl refl refl (outside_set s.classes (one_text s.classes 123))))))) refl refl refl refl) (calls s rule.repeat_max 135 136 at_repeat_max_plain refl refl refl refl refl)) (at_once s) (calls s rule.repeat_min_max 137 138 at_repeat_min_max_plain refl refl refl refl refl))) refl)
 
   node_plain_apart : Laid s (Run NonAtomicMode (body_of rule.node)) 107 108 0
   unfolding whitespace comment
-  node_plain_apart = either s 678 679 678 refl (noted s 21 680 refl (outside_seq s.classes ((40, 40) ∷ []) true (outside_seq s.classes ((40, 40) ∷ []) true (outside_call s.classes ((40, 40) ∷ []) false rule.opening_paren refl refl refl (outside_set s.classes (one_text s.classes 40))))) refl refl refl refl) (tries s 681 683 684 682 refl (seq 685 686 (calls s rule.opening_paren 81 82 at_opening_paren_plain refl refl refl refl refl) (gap_in_place s (seq 687 687 (many s 688 (op.IsOne 0 688 687) refl (λ c z. z) (tight_between s) refl (inl (tested s 0 (outside_sub s.classes ((32, 32) ∷ (9, 9) ∷ (10, 10) ∷ (13, 13) ∷ []) rule.WHITESPACE refl refl refl (outside_choice s.classes ((32, 32) ∷ (9, 9) ∷ []) ((10, 10) ∷ (13, 13) ∷ []) false false (outside_set s.classes (one_of_two s.classes (one_text s.classes 32) (one_text s.classes 9))) (outside_sub s.classes ((10, 10) ∷ (13, 13) ∷ []) rule.newline refl refl refl (outside_choice s.classes ((10, 10) ∷ []) ((13, 13) ∷ []) false false (outside_set s.classes (one_text s.classes 10)) (outside_text s.classes))))) refl refl refl)) (within s rule.WHITESPACE refl refl refl (either s 689 688 690 refl (at_once s) (one_of s 1 (one_of_two s.classes (one_text s.classes 32) (one_text s.classes 9)) refl refl refl) (tested s 2 (outside_sub s.classes ((10, 10) ∷ (13, 13) ∷ []) rule.newline refl refl refl (outside_choice s.classes ((10, 10) ∷ []) ((13, 13) ∷ []) false false (outside_set s.classes (one_text s.classes 10)) (outside_text s.classes))) refl refl refl) (within s rule.newline refl refl refl (either s 691 690 691 refl (at_once s) (word s 30 refl refl refl) (at_once s) (word s 31 refl refl refl)))))) (between s) (many s 692 (op.IsOne 3 692 686) refl (λ c z. z) (tight_between s) refl (inl (tested s 3 (outside_seq s.classes ((47, 47) ∷ (47, 47) ∷ []) false (outside_sub s.classes ((47, 47) ∷ (47, 47) ∷ []) rule.COMMENT refl refl refl (outside_choice s.classes ((47, 47) ∷ []) ((47, 47) ∷ []) false false (outside_sub s.classes ((47, 47) ∷ []) rule.block_comment refl refl refl (outside_seq s.classes ((47, 47) ∷ []) false (outside_seq s.classes ((47, 47) ∷ []) false (outside_text s.classes)))) (outside_sub s.classes ((47, 47) ∷ []) rule.line_comment refl refl refl (outside_seq s.classes ((47, 47) ∷ []) false (outside_seq s.classes ((47, 47) ∷ []) false (outside_text s.classes))))))) refl refl refl)) (tries s 693 695 695 694 refl (enters s rule.COMMENT 191 192 at_COMMENT_atomic_apart refl refl refl refl refl) (between s) (many s 696 (op.IsOne 0 696 694) refl (λ c z. z) (tight_between s) refl (inl (tested s 0 (outside_sub s.classes ((32, 32) ∷ (9, 9) ∷ (10, 10) ∷ (13, 13) ∷ []) rule.WHITESPACE refl refl refl (outside_choice s.classes ((32, 32) ∷ (9, 9) ∷ []) ((10, 10) ∷ (13, 13) ∷ []) false false (outside_set s.classes (one_of_two s.classes (one_text s.classes 32) (one_text s.classes 9))) (outside_sub s.classes ((10, 10) ∷ (13, 13) ∷ []) rule.newline refl refl refl (outside_choice s.classes ((10, 10) ∷ []) ((13, 13) ∷ []) false false (outside_set s.classes (one_text s.classes 10)) (outside_text s.classes))))) refl refl refl)) (within s rule.WHITESPACE refl refl refl (either s 697 696 698 refl (at_once s) (one_of s 1 (one_of_two s.classes (one_text s.classes 32) (one_text s.classes 9)) refl refl refl) (tested s 2 (outside_sub s.classes ((10, 10) ∷ (13, 13) ∷ []) rule.newline refl refl refl (outside_choice s.classes ((10, 10) ∷ []) ((13, 13) ∷ []) false false (outside_set s.classes (one_text s.classes 10)) (outside_text s.classes))) refl refl refl) (within s rule.newline refl refl refl (either s 699 698 699 refl (at_once s) (word s 30 refl refl refl) (at_once s) (word s 31 refl refl refl)))))) refl)))) (calls s rule.expression 103 104 at_expression_plain refl refl refl refl refl)) (gap_in_place s (seq 700 700 (many s 701 (op.IsOne 0 701 700) refl (λ c z. z) (tight_between s) refl (inl (tested s 0 (outside_sub s.classes ((32, 32) ∷ (9, 9) ∷ (10, 10) ∷ (13, 13) ∷ []) rule.WHITESPACE refl refl refl (outside_choice s.classes ((32, 32) ∷ (9, 9) ∷ []) ((10, 10) ∷ (13, 13) ∷ []) false false (outside_set s.classes (one_of_two s.classes (one_text s.classes 32) (one_text s.classes 9))) (outside_sub s.classes ((10, 10) ∷ (13, 13) ∷ []) rule.newline refl refl refl (outside_choice s.classes ((10, 10) ∷ []) ((13, 13) ∷ []) false false (outside_set s.classes (one_text s.classes 10)) (outside_text s.classes))))) refl refl refl)) (within s rule.WHITESPACE refl refl refl (either s 702 701 703 refl (at_once s) (one_of s 1 (one_of_two s.classes (one_text s.classes 32) (one_text s.classes 9)) refl refl refl) (tested s 2 (outside_sub s.classes ((10, 10) ∷ (13, 13) ∷ []) rule.newline refl refl refl (outside_choice s.classes ((10, 10) ∷ []) ((13, 13) ∷ []) false false (outside_set s.classes (one_text s.classes 10)) (outside_text s.classes))) refl refl refl) (within s rule.newline refl refl refl (either s 704 703 704 refl (at_once s) (word s 30 refl refl refl) (at_once s) (word s 31 refl refl refl)))))) (between s) (many s 705 (op.IsOne 3 705 684) refl (λ c z. z) (tight_between s) refl (inl (tested s 3 (outside_seq s.classes ((47, 47) ∷ (47, 47) ∷ []) false (outside_sub s.classes ((47, 47) ∷ (47, 47) ∷ []) rule.COMMENT refl refl refl (outside_choice s.classes ((47, 47) ∷ []) ((47, 47) ∷ []) false false (outside_sub s.classes ((47, 47) ∷ []) rule.block_comment refl refl refl (outside_seq s.classes ((47, 47) ∷ []) false (outside_seq s.classes ((47, 47) ∷ []) false (outside_text s.classes)))) (outside_sub s.classes ((47, 47) ∷ []) rule.line_comment refl refl refl (outside_seq s.classes ((47, 47) ∷ []) false (outside_seq s.classes ((47, 47) ∷ []) false (outside_text s.classes))))))) refl refl refl)) (tries s 706 708 708 707 refl (enters s rule.COMMENT 191 192 at_COMMENT_atomic_apart refl refl refl refl refl) (between s) (many s 709 (op.IsOne 0 709 707) refl (λ c z. z) (tight_between s) refl (inl (tested s 0 (outside_sub s.classes ((32, 32) ∷ (9, 9) ∷ (10, 10) ∷ (13, 13) ∷ []) rule.WHITESPACE refl refl refl (outside_choice s.classes ((32, 32) ∷ (9, 9) ∷ []) ((10, 10) ∷ (13, 13) ∷ []) false false (outside_set s.classes (one_of_two s.classes (one_text s.classes 32) (one_text s.classes 9))) (outside_sub s.classes ((10, 10) ∷ (13, 13) ∷ []) rule.newline refl refl refl (outside_choice s.classes ((10, 10) ∷ []) ((13, 13) ∷ []) false false (outside_set s.classes (one_text s.classes 10)) (outside_text s.classes))))) refl refl refl)) (within s rule.WHITESPACE refl refl refl (either s 710 709 711 refl (at_once s) (one_of s 1 (one_of_two s.classes (one_text s.classes 32) (one_text s.classes 9)) refl refl refl) (tested s 2 (outside_sub s.classes ((10, 10) ∷ (13, 13) ∷ []) rule.newline refl refl refl (outside_choice s.classes ((10, 10) ∷ []) ((13, 13) ∷ []) false false (outside_set s.classes (one_text s.classes 10)) (outside_text s.classes))) refl refl refl) (within s rule.newline refl refl refl (either s 712 711 712 refl (at_once s) (word s 30 refl refl refl) (at_once s) (word s 31 refl refl refl)))))) refl)))) (calls s rule.closing_paren 83 84 at_closing_paren_plain refl refl refl refl refl) refl) (at_once s) (within s rule.terminal refl refl refl (either s 713 714 713 refl (noted s 22 715 refl (outside_choice s.classes ((80, 80) ∷ (80, 80) ∷ (80, 80) ∷ (95, 95) ∷ (97, 122) ∷ (65, 90) ∷ (34, 34) ∷ []) ((94, 94) ∷ []) true true (outside_choice s.classes ((80, 80) ∷ (80, 80) ∷ (80, 80) ∷ (95, 95) ∷ (97, 122) ∷ (65, 90) ∷ []) ((34, 34) ∷ []) true true (outside_choice s.classes ((80, 80) ∷ (80, 80) ∷ (80, 80) ∷ []) ((95, 95) ∷ (97, 122) ∷ (65, 90) ∷ []) true true (outside_choice s.classes ((80, 80) ∷ (80, 80) ∷ []) ((80, 80) ∷ []) true true (outside_choice s.classes ((80, 80) ∷ []) ((80, 80) ∷ []) true true (outside_call s.classes ((80, 80) ∷ []) false rule._push_literal refl refl refl (outside_seq s.classes ((80, 80) ∷ []) false (outside_seq s.classes ((80, 80) ∷ []) false (outside_seq s.classes ((80, 80) ∷ []) false (outside_text s.classes))))) (outside_call s.classes ((80, 80) ∷ []) false rule._push refl refl refl (outside_seq s.classes ((80, 80) ∷ []) false (outside_seq s.classes ((80, 80) ∷ []) false (outside_seq s.classes ((80, 80) ∷ []) false (outside_text s.classes)))))) (outside_call s.classes ((80, 80) ∷ []) false rule.peek_slice refl refl refl (outside_seq s.classes ((80, 80) ∷ []) false (outside_seq s.classes ((80, 80) ∷ []) false (outside_seq s.classes ((80, 80) ∷ []) false (outside_seq s.classes ((80, 80) ∷ []) false (outside_seq s.classes ((80, 80) ∷ []) false (outside_text s.classes)))))))) (outside_call s.classes ((95, 95) ∷ (97, 122) ∷ (65, 90) ∷ []) false rule.identifier refl refl refl (outside_seq s.classes ((95, 95) ∷ (97, 122) ∷ (65, 90) ∷ []) false (outside_not s.classes ((95, 95) ∷ (97, 122) ∷ (65, 90) ∷ []) (tight_atomic s) (outside_set s.classes (one_of_two s.classes (one_text s.classes 95) (one_called s.classes rule.alpha refl refl refl (one_of_two s.classes (one_range s.classes 97 122) (one_range s.classes 65 90))))))))) (outside_call s.classes ((34, 34) ∷ []) true rule.string refl refl refl (outside_seq s.classes ((34, 34) ∷ []) true (outside_seq s.classes ((34, 34) ∷ []) true (outside_call s.classes ((34, 34) ∷ []) false rule.quote refl refl refl (outside_set s.classes (one_text s.classes 34))))))) (outside_call s.classes ((94, 94) ∷ []) false rule.insensitive_string refl refl refl (outside_seq s.classes ((94, 94) ∷ []) false (outside_set s.classes (one_text s.classes 94))))) refl refl refl refl) (either s 716 717 739 refl (noted s 23 718 refl (outside_choice s.classes ((80, 80) ∷ (80, 80) ∷ (80, 80) ∷ (95, 95) ∷ (97, 122) ∷ (65, 90) ∷ []) ((34, 34) ∷ []) true true (outside_choice s.classes ((80, 80) ∷ (80, 80) ∷ (80, 80) ∷ []) ((95, 95) ∷ (97, 122) ∷ (65, 90) ∷ []) true true (outside_choice s.classes ((80, 80) ∷ (80, 80) ∷ []) ((80, 80) ∷ []) true true (outside_choice s.classes ((80, 80) ∷ []) ((80, 80) ∷ []) true true (outside_call s.classes ((80, 80) ∷ []) false rule._push_literal refl refl refl (outside_seq s.classes ((80, 80) ∷ []) false (outside_seq s.classes ((80, 80) ∷ []) false (outside_seq s.classes ((80, 80) ∷ []) false (outside_text s.classes))))) (outside_call s.classes ((80, 80) ∷ []) false rule._push refl refl refl (outside_seq s.classes ((80, 80) ∷ []) false (outside_seq s.classes ((80, 80) ∷ []) false (outside_seq s.classes ((80, 80) ∷ []) false (outside_text s.classes)))))) (outside_call s.classes ((80, 80) ∷ []) false rule.peek_slice refl refl refl (outside_seq s.classes ((80, 80) ∷ []) false (outside_seq s.classes ((80, 80) ∷ []) false (outside_seq s.classes ((80, 80) ∷ []) false (outside_seq s.classes ((80, 80) ∷ []) false (outside_seq s.classes ((80, 80) ∷ []) false (outside_text s.classes)))))))) (outside_call s.classes ((95, 95) ∷ (97, 122) ∷ (65, 90) ∷ []) false rule.identifier refl refl refl (outside_seq s.classes ((95, 95) ∷ (97, 122) ∷ (65, 90) ∷ []) false (outside_not s.classes ((95, 95) ∷ (97, 122) ∷ (65, 90) ∷ []) (tight_atomic s) (outside_set s.classes (one_of_two s.classes (one_text s.classes 95) (one_called s.classes rule.alpha refl refl refl (one_of_two s.classes (one_range s.classes 97 122) (one_range s.classes 65 90))))))))) (outside_call s.classes ((34, 34) ∷ []) true rule.string refl refl refl (outside_seq s.classes ((34, 34) ∷ []) true (outside_seq s.classes ((34, 34) ∷ []) true (outside_call s.classes ((34, 34) ∷ []) false rule.quote refl refl refl (outside_set s.classes (one_text s.classes 34))))))) refl refl refl refl) (either s 719 720 737 refl (noted s 24 721 refl (outside_choice s.classes ((80, 80) ∷ (80, 80) ∷ (80, 80) ∷ []) ((95, 95) ∷ (97, 122) ∷ (65, 90) ∷ []) true true (outside_choice s.classes ((80, 80) ∷ (80, 80) ∷ []) ((80, 80) ∷ []) true true (outside_choice s.classes ((80, 80) ∷ []) ((80, 80) ∷ []) true true (outside_call s.classes ((80, 80) ∷ []) false rule._push_literal refl refl refl (outside_seq s.classes ((80, 80) ∷ []) false (outside_seq s.classes ((80, 80) ∷ []) false (outside_seq s.classes ((80, 80) ∷ []) false (outside_text s.classes))))) (outside_call s.classes ((80, 80) ∷ []) false rule._push refl refl refl (outside_seq s.classes ((80, 80) ∷ []) false (outside_seq s.classes ((80, 80) ∷ []) false (outside_seq s.classes ((80, 80) ∷ []) false (outside_text s.classes)))))) (outside_call s.classes ((80, 80) ∷ []) false rule.peek_slice refl refl refl (outside_seq s.classes ((80, 80) ∷ []) false (outside_seq s.classes ((80, 80) ∷ []) false (outside_seq s.classes ((80, 80) ∷ []) false (outside_seq s.classes ((80, 80) ∷ []) false (outside_seq s.classes ((80, 80) ∷ []) false (outside_text s.classes)))))))) (outside_call s.classes ((95, 95) ∷ (97, 122) ∷ (65, 90) ∷ []) false rule.identifier refl refl refl (outside_seq s.classes ((95, 95) ∷ (97, 122) ∷ (65, 90) ∷ []) false (outside_not s.classes ((95, 95) ∷ (97, 122) ∷ (65, 90) ∷ []) (tight_atomic s) (outside_set s.classes (one_of_two s.classes (one_text s.classes 95) (one_called s.classes rule.alpha refl refl refl (one_of_two s.classes (one_range s.classes 97 122) (one_range s.classes 65 90))))))))) refl refl refl refl) (either s 722 723 735 refl (noted s 25 724 refl (outside_choice s.classes ((80, 80) ∷ (80, 80) ∷ []) ((80, 80) ∷ []) true true (outside_choice s.classes ((80, 80) ∷ []) ((80, 80) ∷ []) true true (outside_call s.classes ((80, 80) ∷ []) false rule._push_literal refl refl refl (outside_seq s.classes ((80, 80) ∷ []) false (outside_seq s.classes ((80, 80) ∷ []) false (outside_seq s.classes ((80, 80) ∷ []) false (outside_text s.classes))))) (outside_call s.classes ((80, 80) ∷ []) false rule._push refl refl refl (outside_seq s.classes ((80, 80) ∷ []) false (outside_seq s.classes ((80, 80) ∷ []) false (outside_seq s.classes ((80, 80) ∷ []) false (outside_text s.classes)))))) (outside_call s.classes ((80, 80) ∷ []) false rule.peek_slice refl refl refl (outside_seq s.classes ((80, 80) ∷ []) false (outside_seq s.classes ((80, 80) ∷ []) false (outside_seq s.classes ((80, 80) ∷ []) false (outside_seq s.classes ((80, 80) ∷ []) false (outside_seq s.classes ((80, 80) ∷ []) false (outside_text s.classes)))))))) refl refl refl refl) (either s 725 726 733 refl (noted s 26 727 refl (outside_choice s.classes ((80, 80) ∷ []) ((80, 80) ∷ []) true true (outside_call s.classes ((80, 80) ∷ []) false rule._push_literal refl refl refl (outside_seq s.classes ((80, 80) ∷ []) false (outside_seq s.classes ((80, 80) ∷ []) false (outside_seq s.classes ((80, 80) ∷ []) false (outside_text s.classes))))) (outside_call s.classes ((80, 80) ∷ []) false rule._push refl refl refl (outside_seq s.classes ((80, 80) ∷ []) false (outside_seq s.classes ((80, 80) ∷ []) false (outside_seq s.classes ((80, 80) ∷ []) false (outside_text s.classes)))))) refl refl refl refl) (either s 728 729 731 refl (noted s 27 730 refl (outside_call s.classes ((80, 80) ∷ []) false rule._push_literal refl refl refl (outside_seq s.classes ((80, 80) ∷ []) false (outside_seq s.classes ((80, 80) ∷ []) false (outside_seq s.classes ((80, 80) ∷ []) false (outside_text s.classes))))) refl refl refl refl) (calls s rule._push_literal 147 148 at_push_literal__plain refl refl refl refl refl) (noted s 27 732 refl (outside_call s.classes ((80, 80) ∷ []) false rule._push refl refl refl (outside_seq s.classes ((80, 80) ∷ []) false (outside_seq s.classes ((80, 80) ∷ []) false (outside_seq s.classes ((80, 80) ∷ []) false (outside_text s.classes))))) refl refl refl refl) (calls s rule._push 145 146 at_push__plain refl refl refl refl refl)) (noted s 27 734 refl (outside_call s.classes ((80, 80) ∷ []) false rule.peek_slice refl refl refl (outside_seq s.classes ((80, 80) ∷ []) false (outside_seq s.classes ((80, 80) ∷ []) false (outside_seq s.classes ((80, 80) ∷ []) false (outside_seq s.classes ((80, 80) ∷ []) false (outside_seq s.classes ((80, 80) ∷ []) false (outside_text s.classes))))))) refl refl refl refl) (calls s rule.peek_slice 149 150 at_peek_slice_plain refl refl refl refl refl)) (noted s 6 736 refl (outside_call s.classes ((95, 95) ∷ (97, 122) ∷ (65, 90) ∷ []) false rule.identifier refl refl refl (outside_seq s.classes ((95, 95) ∷ (97, 122) ∷ (65, 90) ∷ []) false (outside_not s.classes ((95, 95) ∷ (97, 122) ∷ (65, 90) ∷ []) (tight_atomic s) (outside_set s.classes (one_of_two s.classes (one_text s.classes 95) (one_called s.classes rule.alpha refl refl refl (one_of_two s.classes (one_range s.classes 97 122) (one_range s.classes 65 90)))))))) refl refl refl refl) (calls s rule.identifier 151 152 at_identifier_atomic refl refl refl refl refl)) (noted s 28 738 refl (outside_call s.classes ((34, 34) ∷ []) true rule.string refl refl refl (outside_seq s.classes ((34, 34) ∷ []) true (outside_seq s.classes ((34, 34) ∷ []) true (outside_call s.classes ((34, 34) ∷ []) false rule.quote refl refl refl (outside_set s.classes (one_text s.classes 34)))))) refl refl refl refl) (calls s rule.string 157 158 at_string_compound refl refl refl refl refl)) (noted s 29 740 refl (outside_call s.classes ((94, 94) ∷ []) false rule.insensitive_string refl refl refl (outside_seq s.classes ((94, 94) ∷ []) false (outside_set s.classes (one_text s.classes 94)))) refl refl refl refl) (calls s rule.insensitive_string 159 160 at_insensitive_string_plain refl refl refl refl refl)) (at_once s) (calls s rule.range 161 162 at_range_plain refl refl refl refl refl)))
+  node_plain_apart = either s 678 679 678 refl (noted s 21 680 refl (outside_seq s.classes ((40, 40) ∷ []) true (outside_seq s.classes ((40, 40) ∷ []) true (outside_call s.classes ((40, 40) ∷ []) false rule.opening_paren refl refl refl (outside_set s.classes (one_text s.classes 40))))) refl refl refl refl) (tries s 681 683 684 682 refl (seq 685 686 (calls s rule.opening_paren 81 82 at_opening_paren_plain refl refl refl refl refl) (trivia_in_place s (seq 687 687 (many s 688 (op.IsOne 0 688 687) refl (λ c z. z) (tight_between s) refl (inl (tested s 0 (outside_sub s.classes ((32, 32) ∷ (9, 9) ∷ (10, 10) ∷ (13, 13) ∷ []) rule.WHITESPACE refl refl refl (outside_choice s.classes ((32, 32) ∷ (9, 9) ∷ []) ((10, 10) ∷ (13, 13) ∷ []) false false (outside_set s.classes (one_of_two s.classes (one_text s.classes 32) (one_text s.classes 9))) (outside_sub s.classes ((10, 10) ∷ (13, 13) ∷ []) rule.newline refl refl refl (outside_choice s.classes ((10, 10) ∷ []) ((13, 13) ∷ []) false false (outside_set s.classes (one_text s.classes 10)) (outside_text s.classes))))) refl refl refl)) (within s rule.WHITESPACE refl refl refl (either s 689 688 690 refl (at_once s) (one_of s 1 (one_of_two s.classes (one_text s.classes 32) (one_text s.classes 9)) refl refl refl) (tested s 2 (outside_sub s.classes ((10, 10) ∷ (13, 13) ∷ []) rule.newline refl refl refl (outside_choice s.classes ((10, 10) ∷ []) ((13, 13) ∷ []) false false (outside_set s.classes (one_text s.classes 10)) (outside_text s.classes))) refl refl refl) (within s rule.newline refl refl refl (either s 691 690 691 refl (at_once s) (word s 30 refl refl refl) (at_once s) (word s 31 refl refl refl)))))) (between s) (many s 692 (op.IsOne 3 692 686) refl (λ c z. z) (tight_between s) refl (inl (tested s 3 (outside_seq s.classes ((47, 47) ∷ (47, 47) ∷ []) false (outside_sub s.classes ((47, 47) ∷ (47, 47) ∷ []) rule.COMMENT refl refl refl (outside_choice s.classes ((47, 47) ∷ []) ((47, 47) ∷ []) false false (outside_sub s.classes ((47, 47) ∷ []) rule.block_comment refl refl refl (outside_seq s.classes ((47, 47) ∷ []) false (outside_seq s.classes ((47, 47) ∷ []) false (outside_text s.classes)))) (outside_sub s.classes ((47, 47) ∷ []) rule.line_comment refl refl refl (outside_seq s.classes ((47, 47) ∷ []) false (outside_seq s.classes ((47, 47) ∷ []) false (outside_text s.classes))))))) refl refl refl)) (tries s 693 695 695 694 refl (enters s rule.COMMENT 191 192 at_COMMENT_atomic_apart refl refl refl refl refl) (between s) (many s 696 (op.IsOne 0 696 694) refl (λ c z. z) (tight_between s) refl (inl (tested s 0 (outside_sub s.classes ((32, 32) ∷ (9, 9) ∷ (10, 10) ∷ (13, 13) ∷ []) rule.WHITESPACE refl refl refl (outside_choice s.classes ((32, 32) ∷ (9, 9) ∷ []) ((10, 10) ∷ (13, 13) ∷ []) false false (outside_set s.classes (one_of_two s.classes (one_text s.classes 32) (one_text s.classes 9))) (outside_sub s.classes ((10, 10) ∷ (13, 13) ∷ []) rule.newline refl refl refl (outside_choice s.classes ((10, 10) ∷ []) ((13, 13) ∷ []) false false (outside_set s.classes (one_text s.classes 10)) (outside_text s.classes))))) refl refl refl)) (within s rule.WHITESPACE refl refl refl (either s 697 696 698 refl (at_once s) (one_of s 1 (one_of_two s.classes (one_text s.classes 32) (one_text s.classes 9)) refl refl refl) (tested s 2 (outside_sub s.classes ((10, 10) ∷ (13, 13) ∷ []) rule.newline refl refl refl (outside_choice s.classes ((10, 10) ∷ []) ((13, 13) ∷ []) false false (outside_set s.classes (one_text s.classes 10)) (outside_text s.classes))) refl refl refl) (within s rule.newline refl refl refl (either s 699 698 699 refl (at_once s) (word s 30 refl refl refl) (at_once s) (word s 31 refl refl refl)))))) refl)))) (calls s rule.expression 103 104 at_expression_plain refl refl refl refl refl)) (trivia_in_place s (seq 700 700 (many s 701 (op.IsOne 0 701 700) refl (λ c z. z) (tight_between s) refl (inl (tested s 0 (outside_sub s.classes ((32, 32) ∷ (9, 9) ∷ (10, 10) ∷ (13, 13) ∷ []) rule.WHITESPACE refl refl refl (outside_choice s.classes ((32, 32) ∷ (9, 9) ∷ []) ((10, 10) ∷ (13, 13) ∷ []) false false (outside_set s.classes (one_of_two s.classes (one_text s.classes 32) (one_text s.classes 9))) (outside_sub s.classes ((10, 10) ∷ (13, 13) ∷ []) rule.newline refl refl refl (outside_choice s.classes ((10, 10) ∷ []) ((13, 13) ∷ []) false false (outside_set s.classes (one_text s.classes 10)) (outside_text s.classes))))) refl refl refl)) (within s rule.WHITESPACE refl refl refl (either s 702 701 703 refl (at_once s) (one_of s 1 (one_of_two s.classes (one_text s.classes 32) (one_text s.classes 9)) refl refl refl) (tested s 2 (outside_sub s.classes ((10, 10) ∷ (13, 13) ∷ []) rule.newline refl refl refl (outside_choice s.classes ((10, 10) ∷ []) ((13, 13) ∷ []) false false (outside_set s.classes (one_text s.classes 10)) (outside_text s.classes))) refl refl refl) (within s rule.newline refl refl refl (either s 704 703 704 refl (at_once s) (word s 30 refl refl refl) (at_once s) (word s 31 refl refl refl)))))) (between s) (many s 705 (op.IsOne 3 705 684) refl (λ c z. z) (tight_between s) refl (inl (tested s 3 (outside_seq s.classes ((47, 47) ∷ (47, 47) ∷ []) false (outside_sub s.classes ((47, 47) ∷ (47, 47) ∷ []) rule.COMMENT refl refl refl (outside_choice s.classes ((47, 47) ∷ []) ((47, 47) ∷ []) false false (outside_sub s.classes ((47, 47) ∷ []) rule.block_comment refl refl refl (outside_seq s.classes ((47, 47) ∷ []) false (outside_seq s.classes ((47, 47) ∷ []) false (outside_text s.classes)))) (outside_sub s.classes ((47, 47) ∷ []) rule.line_comment refl refl refl (outside_seq s.classes ((47, 47) ∷ []) false (outside_seq s.classes ((47, 47) ∷ []) false (outside_text s.classes))))))) refl refl refl)) (tries s 706 708 708 707 refl (enters s rule.COMMENT 191 192 at_COMMENT_atomic_apart refl refl refl refl refl) (between s) (many s 709 (op.IsOne 0 709 707) refl (λ c z. z) (tight_between s) refl (inl (tested s 0 (outside_sub s.classes ((32, 32) ∷ (9, 9) ∷ (10, 10) ∷ (13, 13) ∷ []) rule.WHITESPACE refl refl refl (outside_choice s.classes ((32, 32) ∷ (9, 9) ∷ []) ((10, 10) ∷ (13, 13) ∷ []) false false (outside_set s.classes (one_of_two s.classes (one_text s.classes 32) (one_text s.classes 9))) (outside_sub s.classes ((10, 10) ∷ (13, 13) ∷ []) rule.newline refl refl refl (outside_choice s.classes ((10, 10) ∷ []) ((13, 13) ∷ []) false false (outside_set s.classes (one_text s.classes 10)) (outside_text s.classes))))) refl refl refl)) (within s rule.WHITESPACE refl refl refl (either s 710 709 711 refl (at_once s) (one_of s 1 (one_of_two s.classes (one_text s.classes 32) (one_text s.classes 9)) refl refl refl) (tested s 2 (outside_sub s.classes ((10, 10) ∷ (13, 13) ∷ []) rule.newline refl refl refl (outside_choice s.classes ((10, 10) ∷ []) ((13, 13) ∷ []) false false (outside_set s.classes (one_text s.classes 10)) (outside_text s.classes))) refl refl refl) (within s rule.newline refl refl refl (either s 712 711 712 refl (at_once s) (word s 30 refl refl refl) (at_once s) (word s 31 refl refl refl)))))) refl)))) (calls s rule.closing_paren 83 84 at_closing_paren_plain refl refl refl refl refl) refl) (at_once s) (within s rule.terminal refl refl refl (either s 713 714 713 refl (noted s 22 715 refl (outside_choice s.classes ((80, 80) ∷ (80, 80) ∷ (80, 80) ∷ (95, 95) ∷ (97, 122) ∷ (65, 90) ∷ (34, 34) ∷ []) ((94, 94) ∷ []) true true (outside_choice s.classes ((80, 80) ∷ (80, 80) ∷ (80, 80) ∷ (95, 95) ∷ (97, 122) ∷ (65, 90) ∷ []) ((34, 34) ∷ []) true true (outside_choice s.classes ((80, 80) ∷ (80, 80) ∷ (80, 80) ∷ []) ((95, 95) ∷ (97, 122) ∷ (65, 90) ∷ []) true true (outside_choice s.classes ((80, 80) ∷ (80, 80) ∷ []) ((80, 80) ∷ []) true true (outside_choice s.classes ((80, 80) ∷ []) ((80, 80) ∷ []) true true (outside_call s.classes ((80, 80) ∷ []) false rule._push_literal refl refl refl (outside_seq s.classes ((80, 80) ∷ []) false (outside_seq s.classes ((80, 80) ∷ []) false (outside_seq s.classes ((80, 80) ∷ []) false (outside_text s.classes))))) (outside_call s.classes ((80, 80) ∷ []) false rule._push refl refl refl (outside_seq s.classes ((80, 80) ∷ []) false (outside_seq s.classes ((80, 80) ∷ []) false (outside_seq s.classes ((80, 80) ∷ []) false (outside_text s.classes)))))) (outside_call s.classes ((80, 80) ∷ []) false rule.peek_slice refl refl refl (outside_seq s.classes ((80, 80) ∷ []) false (outside_seq s.classes ((80, 80) ∷ []) false (outside_seq s.classes ((80, 80) ∷ []) false (outside_seq s.classes ((80, 80) ∷ []) false (outside_seq s.classes ((80, 80) ∷ []) false (outside_text s.classes)))))))) (outside_call s.classes ((95, 95) ∷ (97, 122) ∷ (65, 90) ∷ []) false rule.identifier refl refl refl (outside_seq s.classes ((95, 95) ∷ (97, 122) ∷ (65, 90) ∷ []) false (outside_not s.classes ((95, 95) ∷ (97, 122) ∷ (65, 90) ∷ []) (tight_atomic s) (outside_set s.classes (one_of_two s.classes (one_text s.classes 95) (one_called s.classes rule.alpha refl refl refl (one_of_two s.classes (one_range s.classes 97 122) (one_range s.classes 65 90))))))))) (outside_call s.classes ((34, 34) ∷ []) true rule.string refl refl refl (outside_seq s.classes ((34, 34) ∷ []) true (outside_seq s.classes ((34, 34) ∷ []) true (outside_call s.classes ((34, 34) ∷ []) false rule.quote refl refl refl (outside_set s.classes (one_text s.classes 34))))))) (outside_call s.classes ((94, 94) ∷ []) false rule.insensitive_string refl refl refl (outside_seq s.classes ((94, 94) ∷ []) false (outside_set s.classes (one_text s.classes 94))))) refl refl refl refl) (either s 716 717 739 refl (noted s 23 718 refl (outside_choice s.classes ((80, 80) ∷ (80, 80) ∷ (80, 80) ∷ (95, 95) ∷ (97, 122) ∷ (65, 90) ∷ []) ((34, 34) ∷ []) true true (outside_choice s.classes ((80, 80) ∷ (80, 80) ∷ (80, 80) ∷ []) ((95, 95) ∷ (97, 122) ∷ (65, 90) ∷ []) true true (outside_choice s.classes ((80, 80) ∷ (80, 80) ∷ []) ((80, 80) ∷ []) true true (outside_choice s.classes ((80, 80) ∷ []) ((80, 80) ∷ []) true true (outside_call s.classes ((80, 80) ∷ []) false rule._push_literal refl refl refl (outside_seq s.classes ((80, 80) ∷ []) false (outside_seq s.classes ((80, 80) ∷ []) false (outside_seq s.classes ((80, 80) ∷ []) false (outside_text s.classes))))) (outside_call s.classes ((80, 80) ∷ []) false rule._push refl refl refl (outside_seq s.classes ((80, 80) ∷ []) false (outside_seq s.classes ((80, 80) ∷ []) false (outside_seq s.classes ((80, 80) ∷ []) false (outside_text s.classes)))))) (outside_call s.classes ((80, 80) ∷ []) false rule.peek_slice refl refl refl (outside_seq s.classes ((80, 80) ∷ []) false (outside_seq s.classes ((80, 80) ∷ []) false (outside_seq s.classes ((80, 80) ∷ []) false (outside_seq s.classes ((80, 80) ∷ []) false (outside_seq s.classes ((80, 80) ∷ []) false (outside_text s.classes)))))))) (outside_call s.classes ((95, 95) ∷ (97, 122) ∷ (65, 90) ∷ []) false rule.identifier refl refl refl (outside_seq s.classes ((95, 95) ∷ (97, 122) ∷ (65, 90) ∷ []) false (outside_not s.classes ((95, 95) ∷ (97, 122) ∷ (65, 90) ∷ []) (tight_atomic s) (outside_set s.classes (one_of_two s.classes (one_text s.classes 95) (one_called s.classes rule.alpha refl refl refl (one_of_two s.classes (one_range s.classes 97 122) (one_range s.classes 65 90))))))))) (outside_call s.classes ((34, 34) ∷ []) true rule.string refl refl refl (outside_seq s.classes ((34, 34) ∷ []) true (outside_seq s.classes ((34, 34) ∷ []) true (outside_call s.classes ((34, 34) ∷ []) false rule.quote refl refl refl (outside_set s.classes (one_text s.classes 34))))))) refl refl refl refl) (either s 719 720 737 refl (noted s 24 721 refl (outside_choice s.classes ((80, 80) ∷ (80, 80) ∷ (80, 80) ∷ []) ((95, 95) ∷ (97, 122) ∷ (65, 90) ∷ []) true true (outside_choice s.classes ((80, 80) ∷ (80, 80) ∷ []) ((80, 80) ∷ []) true true (outside_choice s.classes ((80, 80) ∷ []) ((80, 80) ∷ []) true true (outside_call s.classes ((80, 80) ∷ []) false rule._push_literal refl refl refl (outside_seq s.classes ((80, 80) ∷ []) false (outside_seq s.classes ((80, 80) ∷ []) false (outside_seq s.classes ((80, 80) ∷ []) false (outside_text s.classes))))) (outside_call s.classes ((80, 80) ∷ []) false rule._push refl refl refl (outside_seq s.classes ((80, 80) ∷ []) false (outside_seq s.classes ((80, 80) ∷ []) false (outside_seq s.classes ((80, 80) ∷ []) false (outside_text s.classes)))))) (outside_call s.classes ((80, 80) ∷ []) false rule.peek_slice refl refl refl (outside_seq s.classes ((80, 80) ∷ []) false (outside_seq s.classes ((80, 80) ∷ []) false (outside_seq s.classes ((80, 80) ∷ []) false (outside_seq s.classes ((80, 80) ∷ []) false (outside_seq s.classes ((80, 80) ∷ []) false (outside_text s.classes)))))))) (outside_call s.classes ((95, 95) ∷ (97, 122) ∷ (65, 90) ∷ []) false rule.identifier refl refl refl (outside_seq s.classes ((95, 95) ∷ (97, 122) ∷ (65, 90) ∷ []) false (outside_not s.classes ((95, 95) ∷ (97, 122) ∷ (65, 90) ∷ []) (tight_atomic s) (outside_set s.classes (one_of_two s.classes (one_text s.classes 95) (one_called s.classes rule.alpha refl refl refl (one_of_two s.classes (one_range s.classes 97 122) (one_range s.classes 65 90))))))))) refl refl refl refl) (either s 722 723 735 refl (noted s 25 724 refl (outside_choice s.classes ((80, 80) ∷ (80, 80) ∷ []) ((80, 80) ∷ []) true true (outside_choice s.classes ((80, 80) ∷ []) ((80, 80) ∷ []) true true (outside_call s.classes ((80, 80) ∷ []) false rule._push_literal refl refl refl (outside_seq s.classes ((80, 80) ∷ []) false (outside_seq s.classes ((80, 80) ∷ []) false (outside_seq s.classes ((80, 80) ∷ []) false (outside_text s.classes))))) (outside_call s.classes ((80, 80) ∷ []) false rule._push refl refl refl (outside_seq s.classes ((80, 80) ∷ []) false (outside_seq s.classes ((80, 80) ∷ []) false (outside_seq s.classes ((80, 80) ∷ []) false (outside_text s.classes)))))) (outside_call s.classes ((80, 80) ∷ []) false rule.peek_slice refl refl refl (outside_seq s.classes ((80, 80) ∷ []) false (outside_seq s.classes ((80, 80) ∷ []) false (outside_seq s.classes ((80, 80) ∷ []) false (outside_seq s.classes ((80, 80) ∷ []) false (outside_seq s.classes ((80, 80) ∷ []) false (outside_text s.classes)))))))) refl refl refl refl) (either s 725 726 733 refl (noted s 26 727 refl (outside_choice s.classes ((80, 80) ∷ []) ((80, 80) ∷ []) true true (outside_call s.classes ((80, 80) ∷ []) false rule._push_literal refl refl refl (outside_seq s.classes ((80, 80) ∷ []) false (outside_seq s.classes ((80, 80) ∷ []) false (outside_seq s.classes ((80, 80) ∷ []) false (outside_text s.classes))))) (outside_call s.classes ((80, 80) ∷ []) false rule._push refl refl refl (outside_seq s.classes ((80, 80) ∷ []) false (outside_seq s.classes ((80, 80) ∷ []) false (outside_seq s.classes ((80, 80) ∷ []) false (outside_text s.classes)))))) refl refl refl refl) (either s 728 729 731 refl (noted s 27 730 refl (outside_call s.classes ((80, 80) ∷ []) false rule._push_literal refl refl refl (outside_seq s.classes ((80, 80) ∷ []) false (outside_seq s.classes ((80, 80) ∷ []) false (outside_seq s.classes ((80, 80) ∷ []) false (outside_text s.classes))))) refl refl refl refl) (calls s rule._push_literal 147 148 at_push_literal__plain refl refl refl refl refl) (noted s 27 732 refl (outside_call s.classes ((80, 80) ∷ []) false rule._push refl refl refl (outside_seq s.classes ((80, 80) ∷ []) false (outside_seq s.classes ((80, 80) ∷ []) false (outside_seq s.classes ((80, 80) ∷ []) false (outside_text s.classes))))) refl refl refl refl) (calls s rule._push 145 146 at_push__plain refl refl refl refl refl)) (noted s 27 734 refl (outside_call s.classes ((80, 80) ∷ []) false rule.peek_slice refl refl refl (outside_seq s.classes ((80, 80) ∷ []) false (outside_seq s.classes ((80, 80) ∷ []) false (outside_seq s.classes ((80, 80) ∷ []) false (outside_seq s.classes ((80, 80) ∷ []) false (outside_seq s.classes ((80, 80) ∷ []) false (outside_text s.classes))))))) refl refl refl refl) (calls s rule.peek_slice 149 150 at_peek_slice_plain refl refl refl refl refl)) (noted s 6 736 refl (outside_call s.classes ((95, 95) ∷ (97, 122) ∷ (65, 90) ∷ []) false rule.identifier refl refl refl (outside_seq s.classes ((95, 95) ∷ (97, 122) ∷ (65, 90) ∷ []) false (outside_not s.classes ((95, 95) ∷ (97, 122) ∷ (65, 90) ∷ []) (tight_atomic s) (outside_set s.classes (one_of_two s.classes (one_text s.classes 95) (one_called s.classes rule.alpha refl refl refl (one_of_two s.classes (one_range s.classes 97 122) (one_range s.classes 65 90)))))))) refl refl refl refl) (calls s rule.identifier 151 152 at_identifier_atomic refl refl refl refl refl)) (noted s 28 738 refl (outside_call s.classes ((34, 34) ∷ []) true rule.string refl refl refl (outside_seq s.classes ((34, 34) ∷ []) true (outside_seq s.classes ((34, 34) ∷ []) true (outside_call s.classes ((34, 34) ∷ []) false rule.quote refl refl refl (outside_set s.classes (one_text s.classes 34)))))) refl refl refl refl) (calls s rule.string 157 158 at_string_compound refl refl refl refl refl)) (noted s 29 740 refl (outside_call s.classes ((94, 94) ∷ []) false rule.insensitive_string refl refl refl (outside_seq s.classes ((94, 94) ∷ []) false (outside_set s.classes (one_text s.classes 94)))) refl refl refl refl) (calls s rule.insensitive_string 159 160 at_insensitive_string_plain refl refl refl refl refl)) (at_once s) (calls s rule.range 161 162 at_range_plain refl refl refl refl refl)))
 
   terminal_plain_apart : Laid s (Run NonAtomicMode (body_of rule.terminal)) 109 110 0
   unfolding whitespace comment
@@ -849,19 +849,19 @@ module _ (classes : Classes) (code : CodeLists) (is : IsFastCode code) where
 
   repeat_exact_plain : Laid s (Run NonAtomicMode (body_of rule.repeat_exact)) 131 132 0
   unfolding whitespace comment
-  repeat_exact_plain = seq 803 804 (seq 805 806 (calls s rule.opening_brace 77 78 at_opening_brace_plain refl refl refl refl refl) (gap_in_place s (seq 807 807 (many s 808 (op.IsOne 0 808 807) refl (λ c z. z) (tight_between s) refl (inl (tested s 0 (outside_sub s.classes ((32, 32) ∷ (9, 9) ∷ (10, 10) ∷ (13, 13) ∷ []) rule.WHITESPACE refl refl refl (outside_choice s.classes ((32, 32) ∷ (9, 9) ∷ []) ((10, 10) ∷ (13, 13) ∷ []) false false (outside_set s.classes (one_of_two s.classes (one_text s.classes 32) (one_text s.classes 9))) (outside_sub s.classes ((10, 10) ∷ (13, 13) ∷ []) rule.newline refl refl refl (outside_choice s.classes ((10, 10) ∷ []) ((13, 13) ∷ []) false false (outside_set s.classes (one_text s.classes 10)) (outside_text s.classes))))) refl refl refl)) (within s rule.WHITESPACE refl refl refl (either s 809 808 810 refl (at_once s) (one_of s 1 (one_of_two s.classes (one_text s.classes 32) (one_text s.classes 9)) refl refl refl) (tested s 2 (outside_sub s.classes ((10, 10) ∷ (13, 13) ∷ []) rule.newline refl refl refl (outside_choice s.classes ((10, 10) ∷ []) ((13, 13) ∷ []) false false (outside_set s.classes (one_text s.classes 10)) (outside_text s.classes))) refl refl refl) (within s rule.newline refl refl refl (either s 811 810 811 refl (at_once s) (word s 30 refl refl refl) (at_once s) (word s 31 refl refl refl)))))) (between s) (many s 812 (op.IsOne 3 812 806) refl (λ c z. z) (tight_between s) refl (inl (tested s 3 (outside_seq s.classes ((47, 47) ∷ (47, 47) ∷ []) false (outside_sub s.classes ((47, 47) ∷ (47, 47) ∷ []) rule.COMMENT refl refl refl (outside_choice s.classes ((47, 47) ∷ []) ((47, 47) ∷ []) false false (outside_sub s.classes ((47, 47) ∷ []) rule.block_comment refl refl refl (outside_seq s.classes ((47, 47) ∷ []) false (outside_seq s.classes ((47, 47) ∷ []) false (outside_text s.classes)))) (outside_sub s.classes ((47, 47) ∷ []) rule.line_comment refl refl refl (outside_seq s.classes ((47, 47) ∷ []) false (outside_seq s.classes ((47, 47) ∷ []) false (outside_text s.classes))))))) refl refl refl)) (tries s 813 815 815 814 refl (enters s rule.COMMENT 191 192 at_COMMENT_atomic_apart refl refl refl refl refl) (between s) (many s 816 (op.IsOne 0 816 814) refl (λ c z. z) (tight_between s) refl (inl (tested s 0 (outside_sub s.classes ((32, 32) ∷ (9, 9) ∷ (10, 10) ∷ (13, 13) ∷ []) rule.WHITESPACE refl refl refl (outside_choice s.classes ((32, 32) ∷ (9, 9) ∷ []) ((10, 10) ∷ (13, 13) ∷ []) false false (outside_set s.classes (one_of_two s.classes (one_text s.classes 32) (one_text s.classes 9))) (outside_sub s.classes ((10, 10) ∷ (13, 13) ∷ []) rule.newline refl refl refl (outside_choice s.classes ((10, 10) ∷ []) ((13, 13) ∷ []) false false (outside_set s.classes (one_text s.classes 10)) (outside_text s.classes))))) refl refl refl)) (within s rule.WHITESPACE refl refl refl (either s 817 816 818 refl (at_once s) (one_of s 1 (one_of_two s.classes (one_text s.classes 32) (one_text s.classes 9)) refl refl refl) (tested s 2 (outside_sub s.classes ((10, 10) ∷ (13, 13) ∷ []) rule.newline refl refl refl (outside_choice s.classes ((10, 10) ∷ []) ((13, 13) ∷ []) false false (outside_set s.classes (one_text s.classes 10)) (outside_text s.classes))) refl refl refl) (within s rule.newline refl refl refl (either s 819 818 819 refl (at_once s) (word s 30 refl refl refl) (at_once s) (word s 31 refl refl refl)))))) refl)))) (calls s rule.number 139 140 at_number_atomic refl refl refl refl refl)) (gap_in_place s (seq 820 820 (many s 821 (op.IsOne 0 821 820) refl (λ c z. z) (tight_between s) refl (inl (tested s 0 (outside_sub s.classes ((32, 32) ∷ (9, 9) ∷ (10, 10) ∷ (13, 13) ∷ []) rule.WHITESPACE refl refl refl (outside_choice s.classes ((32, 32) ∷ (9, 9) ∷ []) ((10, 10) ∷ (13, 13) ∷ []) false false (outside_set s.classes (one_of_two s.classes (one_text s.classes 32) (one_text s.classes 9))) (outside_sub s.classes ((10, 10) ∷ (13, 13) ∷ []) rule.newline refl refl refl (outside_choice s.classes ((10, 10) ∷ []) ((13, 13) ∷ []) false false (outside_set s.classes (one_text s.classes 10)) (outside_text s.classes))))) refl refl refl)) (within s rule.WHITESPACE refl refl refl (either s 822 821 823 refl (at_once s) (one_of s 1 (one_of_two s.classes (one_text s.classes 32) (one_text s.classes 9)) refl refl refl) (tested s 2 (outside_sub s.classes ((10, 10) ∷ (13, 13) ∷ []) rule.newline refl refl refl (outside_choice s.classes ((10, 10) ∷ []) ((13, 13) ∷ []) false false (outside_set s.classes (one_text s.classes 10)) (outside_text s.classes))) refl refl refl) (within s rule.newline refl refl refl (either s 824 823 824 refl (at_once s) (word s 30 refl refl refl) (at_once s) (word s 31 refl refl refl)))))) (between s) (many s 825 (op.IsOne 3 825 804) refl (λ c z. z) (tight_between s) refl (inl (tested s 3 (outside_seq s.classes ((47, 47) ∷ (47, 47) ∷ []) false (outside_sub s.classes ((47, 47) ∷ (47, 47) ∷ []) rule.COMMENT refl refl refl (outside_choice s.classes ((47, 47) ∷ []) ((47, 47) ∷ []) false false (outside_sub s.classes ((47, 47) ∷ []) rule.block_comment refl refl refl (outside_seq s.classes ((47, 47) ∷ []) false (outside_seq s.classes ((47, 47) ∷ []) false (outside_text s.classes)))) (outside_sub s.classes ((47, 47) ∷ []) rule.line_comment refl refl refl (outside_seq s.classes ((47, 47) ∷ []) false (outside_seq s.classes ((47, 47) ∷ []) false (outside_text s.classes))))))) refl refl refl)) (tries s 826 828 828 827 refl (enters s rule.COMMENT 191 192 at_COMMENT_atomic_apart refl refl refl refl refl) (between s) (many s 829 (op.IsOne 0 829 827) refl (λ c z. z) (tight_between s) refl (inl (tested s 0 (outside_sub s.classes ((32, 32) ∷ (9, 9) ∷ (10, 10) ∷ (13, 13) ∷ []) rule.WHITESPACE refl refl refl (outside_choice s.classes ((32, 32) ∷ (9, 9) ∷ []) ((10, 10) ∷ (13, 13) ∷ []) false false (outside_set s.classes (one_of_two s.classes (one_text s.classes 32) (one_text s.classes 9))) (outside_sub s.classes ((10, 10) ∷ (13, 13) ∷ []) rule.newline refl refl refl (outside_choice s.classes ((10, 10) ∷ []) ((13, 13) ∷ []) false false (outside_set s.classes (one_text s.classes 10)) (outside_text s.classes))))) refl refl refl)) (within s rule.WHITESPACE refl refl refl (either s 830 829 831 refl (at_once s) (one_of s 1 (one_of_two s.classes (one_text s.classes 32) (one_text s.classes 9)) refl refl refl) (tested s 2 (outside_sub s.classes ((10, 10) ∷ (13, 13) ∷ []) rule.newline refl refl refl (outside_choice s.classes ((10, 10) ∷ []) ((13, 13) ∷ []) false false (outside_set s.classes (one_text s.classes 10)) (outside_text s.classes))) refl refl refl) (within s rule.newline refl refl refl (either s 832 831 832 refl (at_once s) (word s 30 refl refl refl) (at_once s) (word s 31 refl refl refl)))))) refl)))) (calls s rule.closing_brace 79 80 at_closing_brace_plain refl refl refl refl refl)
+  repeat_exact_plain = seq 803 804 (seq 805 806 (calls s rule.opening_brace 77 78 at_opening_brace_plain refl refl refl refl refl) (trivia_in_place s (seq 807 807 (many s 808 (op.IsOne 0 808 807) refl (λ c z. z) (tight_between s) refl (inl (tested s 0 (outside_sub s.classes ((32, 32) ∷ (9, 9) ∷ (10, 10) ∷ (13, 13) ∷ []) rule.WHITESPACE refl refl refl (outside_choice s.classes ((32, 32) ∷ (9, 9) ∷ []) ((10, 10) ∷ (13, 13) ∷ []) false false (outside_set s.classes (one_of_two s.classes (one_text s.classes 32) (one_text s.classes 9))) (outside_sub s.classes ((10, 10) ∷ (13, 13) ∷ []) rule.newline refl refl refl (outside_choice s.classes ((10, 10) ∷ []) ((13, 13) ∷ []) false false (outside_set s.classes (one_text s.classes 10)) (outside_text s.classes))))) refl refl refl)) (within s rule.WHITESPACE refl refl refl (either s 809 808 810 refl (at_once s) (one_of s 1 (one_of_two s.classes (one_text s.classes 32) (one_text s.classes 9)) refl refl refl) (tested s 2 (outside_sub s.classes ((10, 10) ∷ (13, 13) ∷ []) rule.newline refl refl refl (outside_choice s.classes ((10, 10) ∷ []) ((13, 13) ∷ []) false false (outside_set s.classes (one_text s.classes 10)) (outside_text s.classes))) refl refl refl) (within s rule.newline refl refl refl (either s 811 810 811 refl (at_once s) (word s 30 refl refl refl) (at_once s) (word s 31 refl refl refl)))))) (between s) (many s 812 (op.IsOne 3 812 806) refl (λ c z. z) (tight_between s) refl (inl (tested s 3 (outside_seq s.classes ((47, 47) ∷ (47, 47) ∷ []) false (outside_sub s.classes ((47, 47) ∷ (47, 47) ∷ []) rule.COMMENT refl refl refl (outside_choice s.classes ((47, 47) ∷ []) ((47, 47) ∷ []) false false (outside_sub s.classes ((47, 47) ∷ []) rule.block_comment refl refl refl (outside_seq s.classes ((47, 47) ∷ []) false (outside_seq s.classes ((47, 47) ∷ []) false (outside_text s.classes)))) (outside_sub s.classes ((47, 47) ∷ []) rule.line_comment refl refl refl (outside_seq s.classes ((47, 47) ∷ []) false (outside_seq s.classes ((47, 47) ∷ []) false (outside_text s.classes))))))) refl refl refl)) (tries s 813 815 815 814 refl (enters s rule.COMMENT 191 192 at_COMMENT_atomic_apart refl refl refl refl refl) (between s) (many s 816 (op.IsOne 0 816 814) refl (λ c z. z) (tight_between s) refl (inl (tested s 0 (outside_sub s.classes ((32, 32) ∷ (9, 9) ∷ (10, 10) ∷ (13, 13) ∷ []) rule.WHITESPACE refl refl refl (outside_choice s.classes ((32, 32) ∷ (9, 9) ∷ []) ((10, 10) ∷ (13, 13) ∷ []) false false (outside_set s.classes (one_of_two s.classes (one_text s.classes 32) (one_text s.classes 9))) (outside_sub s.classes ((10, 10) ∷ (13, 13) ∷ []) rule.newline refl refl refl (outside_choice s.classes ((10, 10) ∷ []) ((13, 13) ∷ []) false false (outside_set s.classes (one_text s.classes 10)) (outside_text s.classes))))) refl refl refl)) (within s rule.WHITESPACE refl refl refl (either s 817 816 818 refl (at_once s) (one_of s 1 (one_of_two s.classes (one_text s.classes 32) (one_text s.classes 9)) refl refl refl) (tested s 2 (outside_sub s.classes ((10, 10) ∷ (13, 13) ∷ []) rule.newline refl refl refl (outside_choice s.classes ((10, 10) ∷ []) ((13, 13) ∷ []) false false (outside_set s.classes (one_text s.classes 10)) (outside_text s.classes))) refl refl refl) (within s rule.newline refl refl refl (either s 819 818 819 refl (at_once s) (word s 30 refl refl refl) (at_once s) (word s 31 refl refl refl)))))) refl)))) (calls s rule.number 139 140 at_number_atomic refl refl refl refl refl)) (trivia_in_place s (seq 820 820 (many s 821 (op.IsOne 0 821 820) refl (λ c z. z) (tight_between s) refl (inl (tested s 0 (outside_sub s.classes ((32, 32) ∷ (9, 9) ∷ (10, 10) ∷ (13, 13) ∷ []) rule.WHITESPACE refl refl refl (outside_choice s.classes ((32, 32) ∷ (9, 9) ∷ []) ((10, 10) ∷ (13, 13) ∷ []) false false (outside_set s.classes (one_of_two s.classes (one_text s.classes 32) (one_text s.classes 9))) (outside_sub s.classes ((10, 10) ∷ (13, 13) ∷ []) rule.newline refl refl refl (outside_choice s.classes ((10, 10) ∷ []) ((13, 13) ∷ []) false false (outside_set s.classes (one_text s.classes 10)) (outside_text s.classes))))) refl refl refl)) (within s rule.WHITESPACE refl refl refl (either s 822 821 823 refl (at_once s) (one_of s 1 (one_of_two s.classes (one_text s.classes 32) (one_text s.classes 9)) refl refl refl) (tested s 2 (outside_sub s.classes ((10, 10) ∷ (13, 13) ∷ []) rule.newline refl refl refl (outside_choice s.classes ((10, 10) ∷ []) ((13, 13) ∷ []) false false (outside_set s.classes (one_text s.classes 10)) (outside_text s.classes))) refl refl refl) (within s rule.newline refl refl refl (either s 824 823 824 refl (at_once s) (word s 30 refl refl refl) (at_once s) (word s 31 refl refl refl)))))) (between s) (many s 825 (op.IsOne 3 825 804) refl (λ c z. z) (tight_between s) refl (inl (tested s 3 (outside_seq s.classes ((47, 47) ∷ (47, 47) ∷ []) false (outside_sub s.classes ((47, 47) ∷ (47, 47) ∷ []) rule.COMMENT refl refl refl (outside_choice s.classes ((47, 47) ∷ []) ((47, 47) ∷ []) false false (outside_sub s.classes ((47, 47) ∷ []) rule.block_comment refl refl refl (outside_seq s.classes ((47, 47) ∷ []) false (outside_seq s.classes ((47, 47) ∷ []) false (outside_text s.classes)))) (outside_sub s.classes ((47, 47) ∷ []) rule.line_comment refl refl refl (outside_seq s.classes ((47, 47) ∷ []) false (outside_seq s.classes ((47, 47) ∷ []) false (outside_text s.classes))))))) refl refl refl)) (tries s 826 828 828 827 refl (enters s rule.COMMENT 191 192 at_COMMENT_atomic_apart refl refl refl refl refl) (between s) (many s 829 (op.IsOne 0 829 827) refl (λ c z. z) (tight_between s) refl (inl (tested s 0 (outside_sub s.classes ((32, 32) ∷ (9, 9) ∷ (10, 10) ∷ (13, 13) ∷ []) rule.WHITESPACE refl refl refl (outside_choice s.classes ((32, 32) ∷ (9, 9) ∷ []) ((10, 10) ∷ (13, 13) ∷ []) false false (outside_set s.classes (one_of_two s.classes (one_text s.classes 32) (one_text s.classes 9))) (outside_sub s.classes ((10, 10) ∷ (13, 13) ∷ []) rule.newline refl refl refl (outside_choice s.classes ((10, 10) ∷ []) ((13, 13) ∷ []) false false (outside_set s.classes (one_text s.classes 10)) (outside_text s.classes))))) refl refl refl)) (within s rule.WHITESPACE refl refl refl (either s 830 829 831 refl (at_once s) (one_of s 1 (one_of_two s.classes (one_text s.classes 32) (one_text s.classes 9)) refl refl refl) (tested s 2 (outside_sub s.classes ((10, 10) ∷ (13, 13) ∷ []) rule.newline refl refl refl (outside_choice s.classes ((10, 10) ∷ []) ((13, 13) ∷ []) false false (outside_set s.classes (one_text s.classes 10)) (outside_text s.classes))) refl refl refl) (within s rule.newline refl refl refl (either s 832 831 832 refl (at_once s) (word s 30 refl refl refl) (at_once s) (word s 31 refl refl refl)))))) refl)))) (calls s rule.closing_brace 79 80 at_closing_brace_plain refl refl refl refl refl)
 
   repeat_min_plain : Laid s (Run NonAtomicMode (body_of rule.repeat_min)) 133 134 0
   unfolding whitespace comment
-  repeat_min_plain = seq 833 834 (seq 835 836 (seq 837 838 (calls s rule.opening_brace 77 78 at_opening_brace_plain refl refl refl refl refl) (gap_in_place s (seq 839 839 (many s 840 (op.IsOne 0 840 839) refl (λ c z. z) (tight_between s) refl (inl (tested s 0 (outside_sub s.classes ((32, 32) ∷ (9, 9) ∷ (10, 10) ∷ (13, 13) ∷ []) rule.WHITESPACE refl refl refl (outside_choice s.classes ((32, 32) ∷ (9, 9) ∷ []) ((10, 10) ∷ (13, 13) ∷ []) false false (outside_set s.classes (one_of_two s.classes (one_text s.classes 32) (one_text s.classes 9))) (outside_sub s.classes ((10, 10) ∷ (13, 13) ∷ []) rule.newline refl refl refl (outside_choice s.classes ((10, 10) ∷ []) ((13, 13) ∷ []) false false (outside_set s.classes (one_text s.classes 10)) (outside_text s.classes))))) refl refl refl)) (within s rule.WHITESPACE refl refl refl (either s 841 840 842 refl (at_once s) (one_of s 1 (one_of_two s.classes (one_text s.classes 32) (one_text s.classes 9)) refl refl refl) (tested s 2 (outside_sub s.classes ((10, 10) ∷ (13, 13) ∷ []) rule.newline refl refl refl (outside_choice s.classes ((10, 10) ∷ []) ((13, 13) ∷ []) false false (outside_set s.classes (one_text s.classes 10)) (outside_text s.classes))) refl refl refl) (within s rule.newline refl refl refl (either s 843 842 843 refl (at_once s) (word s 30 refl refl refl) (at_once s) (word s 31 refl refl refl)))))) (between s) (many s 844 (op.IsOne 3 844 838) refl (λ c z. z) (tight_between s) refl (inl (tested s 3 (outside_seq s.classes ((47, 47) ∷ (47, 47) ∷ []) false (outside_sub s.classes ((47, 47) ∷ (47, 47) ∷ []) rule.COMMENT refl refl refl (outside_choice s.classes ((47, 47) ∷ []) ((47, 47) ∷ []) false false (outside_sub s.classes ((47, 47) ∷ []) rule.block_comment refl refl refl (outside_seq s.classes ((47, 47) ∷ []) false (outside_seq s.classes ((47, 47) ∷ []) false (outside_text s.classes)))) (outside_sub s.classes ((47, 47) ∷ []) rule.line_comment refl refl refl (outside_seq s.classes ((47, 47) ∷ []) false (outside_seq s.classes ((47, 47) ∷ []) false (outside_text s.classes))))))) refl refl refl)) (tries s 845 847 847 846 refl (enters s rule.COMMENT 191 192 at_COMMENT_atomic_apart refl refl refl refl refl) (between s) (many s 848 (op.IsOne 0 848 846) refl (λ c z. z) (tight_between s) refl (inl (tested s 0 (outside_sub s.classes ((32, 32) ∷ (9, 9) ∷ (10, 10) ∷ (13, 13) ∷ []) rule.WHITESPACE refl refl refl (outside_choice s.classes ((32, 32) ∷ (9, 9) ∷ []) ((10, 10) ∷ (13, 13) ∷ []) false false (outside_set s.classes (one_of_two s.classes (one_text s.classes 32) (one_text s.classes 9))) (outside_sub s.classes ((10, 10) ∷ (13, 13) ∷ []) rule.newline refl refl refl (outside_choice s.classes ((10, 10) ∷ []) ((13, 13) ∷ []) false false (outside_set s.classes (one_text s.classes 10)) (outside_text s.classes))))) refl refl refl)) (within s rule.WHITESPACE refl refl refl (either s 849 848 850 refl (at_once s) (one_of s 1 (one_of_two s.classes (one_text s.classes 32) (one_text s.classes 9)) refl refl refl) (tested s 2 (outside_sub s.classes ((10, 10) ∷ (13, 13) ∷ []) rule.newline refl refl refl (outside_choice s.classes ((10, 10) ∷ []) ((13, 13) ∷ []) false false (outside_set s.classes (one_text s.classes 10)) (outside_text s.classes))) refl refl refl) (within s rule.newline refl refl refl (either s 851 850 851 refl (at_once s) (word s 30 refl refl refl) (at_once s) (word s 31 refl refl refl)))))) refl)))) (calls s rule.number 139 140 at_number_atomic refl refl refl refl refl)) (gap_in_place s (seq 852 852 (many s 853 (op.IsOne 0 853 852) refl (λ c z. z) (tight_between s) refl (inl (tested s 0 (outside_sub s.classes ((32, 32) ∷ (9, 9) ∷ (10, 10) ∷ (13, 13) ∷ []) rule.WHITESPACE refl refl refl (outside_choice s.classes ((32, 32) ∷ (9, 9) ∷ []) ((10, 10) ∷ (13, 13) ∷ []) false false (outside_set s.classes (one_of_two s.classes (one_text s.classes 32) (one_text s.classes 9))) (outside_sub s.classes ((10, 10) ∷ (13, 13) ∷ []) rule.newline refl refl refl (outside_choice s.classes ((10, 10) ∷ []) ((13, 13) ∷ []) false false (outside_set s.classes (one_text s.classes 10)) (outside_text s.classes))))) refl refl refl)) (within s rule.WHITESPACE refl refl refl (either s 854 853 855 refl (at_once s) (one_of s 1 (one_of_two s.classes (one_text s.classes 32) (one_text s.classes 9)) refl refl refl) (tested s 2 (outside_sub s.classes ((10, 10) ∷ (13, 13) ∷ []) rule.newline refl refl refl (outside_choice s.classes ((10, 10) ∷ []) ((13, 13) ∷ []) false false (outside_set s.classes (one_text s.classes 10)) (outside_text s.classes))) refl refl refl) (within s rule.newline refl refl refl (either s 856 855 856 refl (at_once s) (word s 30 refl refl refl) (at_once s) (word s 31 refl refl refl)))))) (between s) (many s 857 (op.IsOne 3 857 836) refl (λ c z. z) (tight_between s) refl (inl (tested s 3 (outside_seq s.classes ((47, 47) ∷ (47, 47) ∷ []) false (outside_sub s.classes ((47, 47) ∷ (47, 47) ∷ []) rule.COMMENT refl refl refl (outside_choice s.classes ((47, 47) ∷ []) ((47, 47) ∷ []) false false (outside_sub s.classes ((47, 47) ∷ []) rule.block_comment refl refl refl (outside_seq s.classes ((47, 47) ∷ []) false (outside_seq s.classes ((47, 47) ∷ []) false (outside_text s.classes)))) (outside_sub s.classes ((47, 47) ∷ []) rule.line_comment refl refl refl (outside_seq s.classes ((47, 47) ∷ []) false (outside_seq s.classes ((47, 47) ∷ []) false (outside_text s.classes))))))) refl refl refl)) (tries s 858 860 860 859 refl (enters s rule.COMMENT 191 192 at_COMMENT_atomic_apart refl refl refl refl refl) (between s) (many s 861 (op.IsOne 0 861 859) refl (λ c z. z) (tight_between s) refl (inl (tested s 0 (outside_sub s.classes ((32, 32) ∷ (9, 9) ∷ (10, 10) ∷ (13, 13) ∷ []) rule.WHITESPACE refl refl refl (outside_choice s.classes ((32, 32) ∷ (9, 9) ∷ []) ((10, 10) ∷ (13, 13) ∷ []) false false (outside_set s.classes (one_of_two s.classes (one_text s.classes 32) (one_text s.classes 9))) (outside_sub s.classes ((10, 10) ∷ (13, 13) ∷ []) rule.newline refl refl refl (outside_choice s.classes ((10, 10) ∷ []) ((13, 13) ∷ []) false false (outside_set s.classes (one_text s.classes 10)) (outside_text s.classes))))) refl refl refl)) (within s rule.WHITESPACE refl refl refl (either s 862 861 863 refl (at_once s) (one_of s 1 (one_of_two s.classes (one_text s.classes 32) (one_text s.classes 9)) refl refl refl) (tested s 2 (outside_sub s.classes ((10, 10) ∷ (13, 13) ∷ []) rule.newline refl refl refl (outside_choice s.classes ((10, 10) ∷ []) ((13, 13) ∷ []) false false (outside_set s.classes (one_text s.classes 10)) (outside_text s.classes))) refl refl refl) (within s rule.newline refl refl refl (either s 864 863 864 refl (at_once s) (word s 30 refl refl refl) (at_once s) (word s 31 refl refl refl)))))) refl)))) (calls s rule.comma 143 144 at_comma_plain refl refl refl refl refl)) (gap_in_place s (seq 865 865 (many s 866 (op.IsOne 0 866 865) refl (λ c z. z) (tight_between s) refl (inl (tested s 0 (outside_sub s.classes ((32, 32) ∷ (9, 9) ∷ (10, 10) ∷ (13, 13) ∷ []) rule.WHITESPACE refl refl refl (outside_choice s.classes ((32, 32) ∷ (9, 9) ∷ []) ((10, 10) ∷ (13, 13) ∷ []) false false (outside_set s.classes (one_of_two s.classes (one_text s.classes 32) (one_text s.classes 9))) (outside_sub s.classes ((10, 10) ∷ (13, 13) ∷ []) rule.newline refl refl refl (outside_choice s.classes ((10, 10) ∷ []) ((13, 13) ∷ []) false false (outside_set s.classes (one_text s.classes 10)) (outside_text s.classes))))) refl refl refl)) (within s rule.WHITESPACE refl refl refl (either s 867 866 868 refl (at_once s) (one_of s 1 (one_of_two s.classes (one_text s.classes 32) (one_text s.classes 9)) refl refl refl) (tested s 2 (outside_sub s.classes ((10, 10) ∷ (13, 13) ∷ []) rule.newline refl refl refl (outside_choice s.classes ((10, 10) ∷ []) ((13, 13) ∷ []) false false (outside_set s.classes (one_text s.classes 10)) (outside_text s.classes))) refl refl refl) (within s rule.newline refl refl refl (either s 869 868 869 refl (at_once s) (word s 30 refl refl refl) (at_once s) (word s 31 refl refl refl)))))) (between s) (many s 870 (op.IsOne 3 870 834) refl (λ c z. z) (tight_between s) refl (inl (tested s 3 (outside_seq s.classes ((47, 47) ∷ (47, 47) ∷ []) false (outside_sub s.classes ((47, 47) ∷ (47, 47) ∷ []) rule.COMMENT refl refl refl (outside_choice s.classes ((47, 47) ∷ []) ((47, 47) ∷ []) false false (outside_sub s.classes ((47, 47) ∷ []) rule.block_comment refl refl refl (outside_seq s.classes ((47, 47) ∷ []) false (outside_seq s.classes ((47, 47) ∷ []) false (outside_text s.classes)))) (outside_sub s.classes ((47, 47) ∷ []) rule.line_comment refl refl refl (outside_seq s.classes ((47, 47) ∷ []) false (outside_seq s.classes ((47, 47) ∷ []) false (outside_text s.classes))))))) refl refl refl)) (tries s 871 873 873 872 refl (enters s rule.COMMENT 191 192 at_COMMENT_atomic_apart refl refl refl refl refl) (between s) (many s 874 (op.IsOne 0 874 872) refl (λ c z. z) (tight_between s) refl (inl (tested s 0 (outside_sub s.classes ((32, 32) ∷ (9, 9) ∷ (10, 10) ∷ (13, 13) ∷ []) rule.WHITESPACE refl refl refl (outside_choice s.classes ((32, 32) ∷ (9, 9) ∷ []) ((10, 10) ∷ (13, 13) ∷ []) false false (outside_set s.classes (one_of_two s.classes (one_text s.classes 32) (one_text s.classes 9))) (outside_sub s.classes ((10, 10) ∷ (13, 13) ∷ []) rule.newline refl refl refl (outside_choice s.classes ((10, 10) ∷ []) ((13, 13) ∷ []) false false (outside_set s.classes (one_text s.classes 10)) (outside_text s.classes))))) refl refl refl)) (within s rule.WHITESPACE refl refl refl (either s 875 874 876 refl (at_once s) (one_of s 1 (one_of_two s.classes (one_text s.classes 32) (one_text s.classes 9)) refl refl refl) (tested s 2 (outside_sub s.classes ((10, 10) ∷ (13, 13) ∷ []) rule.newline refl refl refl (outside_choice s.classes ((10, 10) ∷ []) ((13, 13) ∷ []) false false (outside_set s.classes (one_text s.classes 10)) (outside_text s.classes))) refl refl refl) (within s rule.newline refl refl refl (either s 877 876 877 refl (at_once s) (word s 30 refl refl refl) (at_once s) (word s 31 refl refl refl)))))) refl)))) (calls s rule.closing_brace 79 80 at_closing_brace_plain refl refl refl refl refl)
+  repeat_min_plain = seq 833 834 (seq 835 836 (seq 837 838 (calls s rule.opening_brace 77 78 at_opening_brace_plain refl refl refl refl refl) (trivia_in_place s (seq 839 839 (many s 840 (op.IsOne 0 840 839) refl (λ c z. z) (tight_between s) refl (inl (tested s 0 (outside_sub s.classes ((32, 32) ∷ (9, 9) ∷ (10, 10) ∷ (13, 13) ∷ []) rule.WHITESPACE refl refl refl (outside_choice s.classes ((32, 32) ∷ (9, 9) ∷ []) ((10, 10) ∷ (13, 13) ∷ []) false false (outside_set s.classes (one_of_two s.classes (one_text s.classes 32) (one_text s.classes 9))) (outside_sub s.classes ((10, 10) ∷ (13, 13) ∷ []) rule.newline refl refl refl (outside_choice s.classes ((10, 10) ∷ []) ((13, 13) ∷ []) false false (outside_set s.classes (one_text s.classes 10)) (outside_text s.classes))))) refl refl refl)) (within s rule.WHITESPACE refl refl refl (either s 841 840 842 refl (at_once s) (one_of s 1 (one_of_two s.classes (one_text s.classes 32) (one_text s.classes 9)) refl refl refl) (tested s 2 (outside_sub s.classes ((10, 10) ∷ (13, 13) ∷ []) rule.newline refl refl refl (outside_choice s.classes ((10, 10) ∷ []) ((13, 13) ∷ []) false false (outside_set s.classes (one_text s.classes 10)) (outside_text s.classes))) refl refl refl) (within s rule.newline refl refl refl (either s 843 842 843 refl (at_once s) (word s 30 refl refl refl) (at_once s) (word s 31 refl refl refl)))))) (between s) (many s 844 (op.IsOne 3 844 838) refl (λ c z. z) (tight_between s) refl (inl (tested s 3 (outside_seq s.classes ((47, 47) ∷ (47, 47) ∷ []) false (outside_sub s.classes ((47, 47) ∷ (47, 47) ∷ []) rule.COMMENT refl refl refl (outside_choice s.classes ((47, 47) ∷ []) ((47, 47) ∷ []) false false (outside_sub s.classes ((47, 47) ∷ []) rule.block_comment refl refl refl (outside_seq s.classes ((47, 47) ∷ []) false (outside_seq s.classes ((47, 47) ∷ []) false (outside_text s.classes)))) (outside_sub s.classes ((47, 47) ∷ []) rule.line_comment refl refl refl (outside_seq s.classes ((47, 47) ∷ []) false (outside_seq s.classes ((47, 47) ∷ []) false (outside_text s.classes))))))) refl refl refl)) (tries s 845 847 847 846 refl (enters s rule.COMMENT 191 192 at_COMMENT_atomic_apart refl refl refl refl refl) (between s) (many s 848 (op.IsOne 0 848 846) refl (λ c z. z) (tight_between s) refl (inl (tested s 0 (outside_sub s.classes ((32, 32) ∷ (9, 9) ∷ (10, 10) ∷ (13, 13) ∷ []) rule.WHITESPACE refl refl refl (outside_choice s.classes ((32, 32) ∷ (9, 9) ∷ []) ((10, 10) ∷ (13, 13) ∷ []) false false (outside_set s.classes (one_of_two s.classes (one_text s.classes 32) (one_text s.classes 9))) (outside_sub s.classes ((10, 10) ∷ (13, 13) ∷ []) rule.newline refl refl refl (outside_choice s.classes ((10, 10) ∷ []) ((13, 13) ∷ []) false false (outside_set s.classes (one_text s.classes 10)) (outside_text s.classes))))) refl refl refl)) (within s rule.WHITESPACE refl refl refl (either s 849 848 850 refl (at_once s) (one_of s 1 (one_of_two s.classes (one_text s.classes 32) (one_text s.classes 9)) refl refl refl) (tested s 2 (outside_sub s.classes ((10, 10) ∷ (13, 13) ∷ []) rule.newline refl refl refl (outside_choice s.classes ((10, 10) ∷ []) ((13, 13) ∷ []) false false (outside_set s.classes (one_text s.classes 10)) (outside_text s.classes))) refl refl refl) (within s rule.newline refl refl refl (either s 851 850 851 refl (at_once s) (word s 30 refl refl refl) (at_once s) (word s 31 refl refl refl)))))) refl)))) (calls s rule.number 139 140 at_number_atomic refl refl refl refl refl)) (trivia_in_place s (seq 852 852 (many s 853 (op.IsOne 0 853 852) refl (λ c z. z) (tight_between s) refl (inl (tested s 0 (outside_sub s.classes ((32, 32) ∷ (9, 9) ∷ (10, 10) ∷ (13, 13) ∷ []) rule.WHITESPACE refl refl refl (outside_choice s.classes ((32, 32) ∷ (9, 9) ∷ []) ((10, 10) ∷ (13, 13) ∷ []) false false (outside_set s.classes (one_of_two s.classes (one_text s.classes 32) (one_text s.classes 9))) (outside_sub s.classes ((10, 10) ∷ (13, 13) ∷ []) rule.newline refl refl refl (outside_choice s.classes ((10, 10) ∷ []) ((13, 13) ∷ []) false false (outside_set s.classes (one_text s.classes 10)) (outside_text s.classes))))) refl refl refl)) (within s rule.WHITESPACE refl refl refl (either s 854 853 855 refl (at_once s) (one_of s 1 (one_of_two s.classes (one_text s.classes 32) (one_text s.classes 9)) refl refl refl) (tested s 2 (outside_sub s.classes ((10, 10) ∷ (13, 13) ∷ []) rule.newline refl refl refl (outside_choice s.classes ((10, 10) ∷ []) ((13, 13) ∷ []) false false (outside_set s.classes (one_text s.classes 10)) (outside_text s.classes))) refl refl refl) (within s rule.newline refl refl refl (either s 856 855 856 refl (at_once s) (word s 30 refl refl refl) (at_once s) (word s 31 refl refl refl)))))) (between s) (many s 857 (op.IsOne 3 857 836) refl (λ c z. z) (tight_between s) refl (inl (tested s 3 (outside_seq s.classes ((47, 47) ∷ (47, 47) ∷ []) false (outside_sub s.classes ((47, 47) ∷ (47, 47) ∷ []) rule.COMMENT refl refl refl (outside_choice s.classes ((47, 47) ∷ []) ((47, 47) ∷ []) false false (outside_sub s.classes ((47, 47) ∷ []) rule.block_comment refl refl refl (outside_seq s.classes ((47, 47) ∷ []) false (outside_seq s.classes ((47, 47) ∷ []) false (outside_text s.classes)))) (outside_sub s.classes ((47, 47) ∷ []) rule.line_comment refl refl refl (outside_seq s.classes ((47, 47) ∷ []) false (outside_seq s.classes ((47, 47) ∷ []) false (outside_text s.classes))))))) refl refl refl)) (tries s 858 860 860 859 refl (enters s rule.COMMENT 191 192 at_COMMENT_atomic_apart refl refl refl refl refl) (between s) (many s 861 (op.IsOne 0 861 859) refl (λ c z. z) (tight_between s) refl (inl (tested s 0 (outside_sub s.classes ((32, 32) ∷ (9, 9) ∷ (10, 10) ∷ (13, 13) ∷ []) rule.WHITESPACE refl refl refl (outside_choice s.classes ((32, 32) ∷ (9, 9) ∷ []) ((10, 10) ∷ (13, 13) ∷ []) false false (outside_set s.classes (one_of_two s.classes (one_text s.classes 32) (one_text s.classes 9))) (outside_sub s.classes ((10, 10) ∷ (13, 13) ∷ []) rule.newline refl refl refl (outside_choice s.classes ((10, 10) ∷ []) ((13, 13) ∷ []) false false (outside_set s.classes (one_text s.classes 10)) (outside_text s.classes))))) refl refl refl)) (within s rule.WHITESPACE refl refl refl (either s 862 861 863 refl (at_once s) (one_of s 1 (one_of_two s.classes (one_text s.classes 32) (one_text s.classes 9)) refl refl refl) (tested s 2 (outside_sub s.classes ((10, 10) ∷ (13, 13) ∷ []) rule.newline refl refl refl (outside_choice s.classes ((10, 10) ∷ []) ((13, 13) ∷ []) false false (outside_set s.classes (one_text s.classes 10)) (outside_text s.classes))) refl refl refl) (within s rule.newline refl refl refl (either s 864 863 864 refl (at_once s) (word s 30 refl refl refl) (at_once s) (word s 31 refl refl refl)))))) refl)))) (calls s rule.comma 143 144 at_comma_plain refl refl refl refl refl)) (trivia_in_place s (seq 865 865 (many s 866 (op.IsOne 0 866 865) refl (λ c z. z) (tight_between s) refl (inl (tested s 0 (outside_sub s.classes ((32, 32) ∷ (9, 9) ∷ (10, 10) ∷ (13, 13) ∷ []) rule.WHITESPACE refl refl refl (outside_choice s.classes ((32, 32) ∷ (9, 9) ∷ []) ((10, 10) ∷ (13, 13) ∷ []) false false (outside_set s.classes (one_of_two s.classes (one_text s.classes 32) (one_text s.classes 9))) (outside_sub s.classes ((10, 10) ∷ (13, 13) ∷ []) rule.newline refl refl refl (outside_choice s.classes ((10, 10) ∷ []) ((13, 13) ∷ []) false false (outside_set s.classes (one_text s.classes 10)) (outside_text s.classes))))) refl refl refl)) (within s rule.WHITESPACE refl refl refl (either s 867 866 868 refl (at_once s) (one_of s 1 (one_of_two s.classes (one_text s.classes 32) (one_text s.classes 9)) refl refl refl) (tested s 2 (outside_sub s.classes ((10, 10) ∷ (13, 13) ∷ []) rule.newline refl refl refl (outside_choice s.classes ((10, 10) ∷ []) ((13, 13) ∷ []) false false (outside_set s.classes (one_text s.classes 10)) (outside_text s.classes))) refl refl refl) (within s rule.newline refl refl refl (either s 869 868 869 refl (at_once s) (word s 30 refl refl refl) (at_once s) (word s 31 refl refl refl)))))) (between s) (many s 870 (op.IsOne 3 870 834) refl (λ c z. z) (tight_between s) refl (inl (tested s 3 (outside_seq s.classes ((47, 47) ∷ (47, 47) ∷ []) false (outside_sub s.classes ((47, 47) ∷ (47, 47) ∷ []) rule.COMMENT refl refl refl (outside_choice s.classes ((47, 47) ∷ []) ((47, 47) ∷ []) false false (outside_sub s.classes ((47, 47) ∷ []) rule.block_comment refl refl refl (outside_seq s.classes ((47, 47) ∷ []) false (outside_seq s.classes ((47, 47) ∷ []) false (outside_text s.classes)))) (outside_sub s.classes ((47, 47) ∷ []) rule.line_comment refl refl refl (outside_seq s.classes ((47, 47) ∷ []) false (outside_seq s.classes ((47, 47) ∷ []) false (outside_text s.classes))))))) refl refl refl)) (tries s 871 873 873 872 refl (enters s rule.COMMENT 191 192 at_COMMENT_atomic_apart refl refl refl refl refl) (between s) (many s 874 (op.IsOne 0 874 872) refl (λ c z. z) (tight_between s) refl (inl (tested s 0 (outside_sub s.classes ((32, 32) ∷ (9, 9) ∷ (10, 10) ∷ (13, 13) ∷ []) rule.WHITESPACE refl refl refl (outside_choice s.classes ((32, 32) ∷ (9, 9) ∷ []) ((10, 10) ∷ (13, 13) ∷ []) false false (outside_set s.classes (one_of_two s.classes (one_text s.classes 32) (one_text s.classes 9))) (outside_sub s.classes ((10, 10) ∷ (13, 13) ∷ []) rule.newline refl refl refl (outside_choice s.classes ((10, 10) ∷ []) ((13, 13) ∷ []) false false (outside_set s.classes (one_text s.classes 10)) (outside_text s.classes))))) refl refl refl)) (within s rule.WHITESPACE refl refl refl (either s 875 874 876 refl (at_once s) (one_of s 1 (one_of_two s.classes (one_text s.classes 32) (one_text s.classes 9)) refl refl refl) (tested s 2 (outside_sub s.classes ((10, 10) ∷ (13, 13) ∷ []) rule.newline refl refl refl (outside_choice s.classes ((10, 10) ∷ []) ((13, 13) ∷ []) false false (outside_set s.classes (one_text s.classes 10)) (outside_text s.classes))) refl refl refl) (within s rule.newline refl refl refl (either s 877 876 877 refl (at_once s) (word s 30 refl refl refl) (at_once s) (word s 31 refl refl refl)))))) refl)))) (calls s rule.closing_brace 79 80 at_closing_brace_plain refl refl refl refl refl)
 
   repeat_max_plain : Laid s (Run NonAtomicMode (body_of rule.repeat_max)) 135 136 0
   unfolding whitespace comment
-  repeat_max_plain = seq 878 879 (seq 880 881 (seq 882 883 (calls s rule.opening_brace 77 78 at_opening_brace_plain refl refl refl refl refl) (gap_in_place s (seq 884 884 (many s 885 (op.IsOne 0 885 884) refl (λ c z. z) (tight_between s) refl (inl (tested s 0 (outside_sub s.classes ((32, 32) ∷ (9, 9) ∷ (10, 10) ∷ (13, 13) ∷ []) rule.WHITESPACE refl refl refl (outside_choice s.classes ((32, 32) ∷ (9, 9) ∷ []) ((10, 10) ∷ (13, 13) ∷ []) false false (outside_set s.classes (one_of_two s.classes (one_text s.classes 32) (one_text s.classes 9))) (outside_sub s.classes ((10, 10) ∷ (13, 13) ∷ []) rule.newline refl refl refl (outside_choice s.classes ((10, 10) ∷ []) ((13, 13) ∷ []) false false (outside_set s.classes (one_text s.classes 10)) (outside_text s.classes))))) refl refl refl)) (within s rule.WHITESPACE refl refl refl (either s 886 885 887 refl (at_once s) (one_of s 1 (one_of_two s.classes (one_text s.classes 32) (one_text s.classes 9)) refl refl refl) (tested s 2 (outside_sub s.classes ((10, 10) ∷ (13, 13) ∷ []) rule.newline refl refl refl (outside_choice s.classes ((10, 10) ∷ []) ((13, 13) ∷ []) false false (outside_set s.classes (one_text s.classes 10)) (outside_text s.classes))) refl refl refl) (within s rule.newline refl refl refl (either s 888 887 888 refl (at_once s) (word s 30 refl refl refl) (at_once s) (word s 31 refl refl refl)))))) (between s) (many s 889 (op.IsOne 3 889 883) refl (λ c z. z) (tight_between s) refl (inl (tested s 3 (outside_seq s.classes ((47, 47) ∷ (47, 47) ∷ []) false (outside_sub s.classes ((47, 47) ∷ (47, 47) ∷ []) rule.COMMENT refl refl refl (outside_choice s.classes ((47, 47) ∷ []) ((47, 47) ∷ []) false false (outside_sub s.classes ((47, 47) ∷ []) rule.block_comment refl refl refl (outside_seq s.classes ((47, 47) ∷ []) false (outside_seq s.classes ((47, 47) ∷ []) false (outside_text s.classes)))) (outside_sub s.classes ((47, 47) ∷ []) rule.line_comment refl refl refl (outside_seq s.classes ((47, 47) ∷ []) false (outside_seq s.classes ((47, 47) ∷ []) false (outside_text s.classes))))))) refl refl refl)) (tries s 890 892 892 891 refl (enters s rule.COMMENT 191 192 at_COMMENT_atomic_apart refl refl refl refl refl) (between s) (many s 893 (op.IsOne 0 893 891) refl (λ c z. z) (tight_between s) refl (inl (tested s 0 (outside_sub s.classes ((32, 32) ∷ (9, 9) ∷ (10, 10) ∷ (13, 13) ∷ []) rule.WHITESPACE refl refl refl (outside_choice s.classes ((32, 32) ∷ (9, 9) ∷ []) ((10, 10) ∷ (13, 13) ∷ []) false false (outside_set s.classes (one_of_two s.classes (one_text s.classes 32) (one_text s.classes 9))) (outside_sub s.classes ((10, 10) ∷ (13, 13) ∷ []) rule.newline refl refl refl (outside_choice s.classes ((10, 10) ∷ []) ((13, 13) ∷ []) false false (outside_set s.classes (one_text s.classes 10)) (outside_text s.classes))))) refl refl refl)) (within s rule.WHITESPACE refl refl refl (either s 894 893 895 refl (at_once s) (one_of s 1 (one_of_two s.classes (one_text s.classes 32) (one_text s.classes 9)) refl refl refl) (tested s 2 (outside_sub s.classes ((10, 10) ∷ (13, 13) ∷ []) rule.newline refl refl refl (outside_choice s.classes ((10, 10) ∷ []) ((13, 13) ∷ []) false false (outside_set s.classes (one_text s.classes 10)) (outside_text s.classes))) refl refl refl) (within s rule.newline refl refl refl (either s 896 895 896 refl (at_once s) (word s 30 refl refl refl) (at_once s) (word s 31 refl refl refl)))))) refl)))) (calls s rule.comma 143 144 at_comma_plain refl refl refl refl refl)) (gap_in_place s (seq 897 897 (many s 898 (op.IsOne 0 898 897) refl (λ c z. z) (tight_between s) refl (inl (tested s 0 (outside_sub s.classes ((32, 32) ∷ (9, 9) ∷ (10, 10) ∷ (13, 13) ∷ []) rule.WHITESPACE refl refl refl (outside_choice s.classes ((32, 32) ∷ (9, 9) ∷ []) ((10, 10) ∷ (13, 13) ∷ []) false false (outside_set s.classes (one_of_two s.classes (one_text s.classes 32) (one_text s.classes 9))) (outside_sub s.classes ((10, 10) ∷ (13, 13) ∷ []) rule.newline refl refl refl (outside_choice s.classes ((10, 10) ∷ []) ((13, 13) ∷ []) false false (outside_set s.classes (one_text s.classes 10)) (outside_text s.classes))))) refl refl refl)) (within s rule.WHITESPACE refl refl refl (either s 899 898 900 refl (at_once s) (one_of s 1 (one_of_two s.classes (one_text s.classes 32) (one_text s.classes 9)) refl refl refl) (tested s 2 (outside_sub s.classes ((10, 10) ∷ (13, 13) ∷ []) rule.newline refl refl refl (outside_choice s.classes ((10, 10) ∷ []) ((13, 13) ∷ []) false false (outside_set s.classes (one_text s.classes 10)) (outside_text s.classes))) refl refl refl) (within s rule.newline refl refl refl (either s 901 900 901 refl (at_once s) (word s 30 refl refl refl) (at_once s) (word s 31 refl refl refl)))))) (between s) (many s 902 (op.IsOne 3 902 881) refl (λ c z. z) (tight_between s) refl (inl (tested s 3 (outside_seq s.classes ((47, 47) ∷ (47, 47) ∷ []) false (outside_sub s.classes ((47, 47) ∷ (47, 47) ∷ []) rule.COMMENT refl refl refl (outside_choice s.classes ((47, 47) ∷ []) ((47, 47) ∷ []) false false (outside_sub s.classes ((47, 47) ∷ []) rule.block_comment refl refl refl (outside_seq s.classes ((47, 47) ∷ []) false (outside_seq s.classes ((47, 47) ∷ []) false (outside_text s.classes)))) (outside_sub s.classes ((47, 47) ∷ []) rule.line_comment refl refl refl (outside_seq s.classes ((47, 47) ∷ []) false (outside_seq s.classes ((47, 47) ∷ []) false (outside_text s.classes))))))) refl refl refl)) (tries s 903 905 905 904 refl (enters s rule.COMMENT 191 192 at_COMMENT_atomic_apart refl refl refl refl refl) (between s) (many s 906 (op.IsOne 0 906 904) refl (λ c z. z) (tight_between s) refl (inl (tested s 0 (outside_sub s.classes ((32, 32) ∷ (9, 9) ∷ (10, 10) ∷ (13, 13) ∷ []) rule.WHITESPACE refl refl refl (outside_choice s.classes ((32, 32) ∷ (9, 9) ∷ []) ((10, 10) ∷ (13, 13) ∷ []) false false (outside_set s.classes (one_of_two s.classes (one_text s.classes 32) (one_text s.classes 9))) (outside_sub s.classes ((10, 10) ∷ (13, 13) ∷ []) rule.newline refl refl refl (outside_choice s.classes ((10, 10) ∷ []) ((13, 13) ∷ []) false false (outside_set s.classes (one_text s.classes 10)) (outside_text s.classes))))) refl refl refl)) (within s rule.WHITESPACE refl refl refl (either s 907 906 908 refl (at_once s) (one_of s 1 (one_of_two s.classes (one_text s.classes 32) (one_text s.classes 9)) refl refl refl) (tested s 2 (outside_sub s.classes ((10, 10) ∷ (13, 13) ∷ []) rule.newline refl refl refl (outside_choice s.classes ((10, 10) ∷ []) ((13, 13) ∷ []) false false (outside_set s.classes (one_text s.classes 10)) (outside_text s.classes))) refl refl refl) (within s rule.newline refl refl refl (either s 909 908 909 refl (at_once s) (word s 30 refl refl refl) (at_once s) (word s 31 refl refl refl)))))) refl)))) (calls s rule.number 139 140 at_number_atomic refl refl refl refl refl)) (gap_in_place s (seq 910 910 (many s 911 (op.IsOne 0 911 910) refl (λ c z. z) (tight_between s) refl (inl (tested s 0 (outside_sub s.classes ((32, 32) ∷ (9, 9) ∷ (10, 10) ∷ (13, 13) ∷ []) rule.WHITESPACE refl refl refl (outside_choice s.classes ((32, 32) ∷ (9, 9) ∷ []) ((10, 10) ∷ (13, 13) ∷ []) false false (outside_set s.classes (one_of_two s.classes (one_text s.classes 32) (one_text s.classes 9))) (outside_sub s.classes ((10, 10) ∷ (13, 13) ∷ []) rule.newline refl refl refl (outside_choice s.classes ((10, 10) ∷ []) ((13, 13) ∷ []) false false (outside_set s.classes (one_text s.classes 10)) (outside_text s.classes))))) refl refl refl)) (within s rule.WHITESPACE refl refl refl (either s 912 911 913 refl (at_once s) (one_of s 1 (one_of_two s.classes (one_text s.classes 32) (one_text s.classes 9)) refl refl refl) (tested s 2 (outside_sub s.classes ((10, 10) ∷ (13, 13) ∷ []) rule.newline refl refl refl (outside_choice s.classes ((10, 10) ∷ []) ((13, 13) ∷ []) false false (outside_set s.classes (one_text s.classes 10)) (outside_text s.classes))) refl refl refl) (within s rule.newline refl refl refl (either s 914 913 914 refl (at_once s) (word s 30 refl refl refl) (at_once s) (word s 31 refl refl refl)))))) (between s) (many s 915 (op.IsOne 3 915 879) refl (λ c z. z) (tight_between s) refl (inl (tested s 3 (outside_seq s.classes ((47, 47) ∷ (47, 47) ∷ []) false (outside_sub s.classes ((47, 47) ∷ (47, 47) ∷ []) rule.COMMENT refl refl refl (outside_choice s.classes ((47, 47) ∷ []) ((47, 47) ∷ []) false false (outside_sub s.classes ((47, 47) ∷ []) rule.block_comment refl refl refl (outside_seq s.classes ((47, 47) ∷ []) false (outside_seq s.classes ((47, 47) ∷ []) false (outside_text s.classes)))) (outside_sub s.classes ((47, 47) ∷ []) rule.line_comment refl refl refl (outside_seq s.classes ((47, 47) ∷ []) false (outside_seq s.classes ((47, 47) ∷ []) false (outside_text s.classes))))))) refl refl refl)) (tries s 916 918 918 917 refl (enters s rule.COMMENT 191 192 at_COMMENT_atomic_apart refl refl refl refl refl) (between s) (many s 919 (op.IsOne 0 919 917) refl (λ c z. z) (tight_between s) refl (inl (tested s 0 (outside_sub s.classes ((32, 32) ∷ (9, 9) ∷ (10, 10) ∷ (13, 13) ∷ []) rule.WHITESPACE refl refl refl (outside_choice s.classes ((32, 32) ∷ (9, 9) ∷ []) ((10, 10) ∷ (13, 13) ∷ []) false false (outside_set s.classes (one_of_two s.classes (one_text s.classes 32) (one_text s.classes 9))) (outside_sub s.classes ((10, 10) ∷ (13, 13) ∷ []) rule.newline refl refl refl (outside_choice s.classes ((10, 10) ∷ []) ((13, 13) ∷ []) false false (outside_set s.classes (one_text s.classes 10)) (outside_text s.classes))))) refl refl refl)) (within s rule.WHITESPACE refl refl refl (either s 920 919 921 refl (at_once s) (one_of s 1 (one_of_two s.classes (one_text s.classes 32) (one_text s.classes 9)) refl refl refl) (tested s 2 (outside_sub s.classes ((10, 10) ∷ (13, 13) ∷ []) rule.newline refl refl refl (outside_choice s.classes ((10, 10) ∷ []) ((13, 13) ∷ []) false false (outside_set s.classes (one_text s.classes 10)) (outside_text s.classes))) refl refl refl) (within s rule.newline refl refl refl (either s 922 921 922 refl (at_once s) (word s 30 refl refl refl) (at_once s) (word s 31 refl refl refl)))))) refl)))) (calls s rule.closing_brace 79 80 at_closing_brace_plain refl refl refl refl refl)
+  repeat_max_plain = seq 878 879 (seq 880 881 (seq 882 883 (calls s rule.opening_brace 77 78 at_opening_brace_plain refl refl refl refl refl) (trivia_in_place s (seq 884 884 (many s 885 (op.IsOne 0 885 884) refl (λ c z. z) (tight_between s) refl (inl (tested s 0 (outside_sub s.classes ((32, 32) ∷ (9, 9) ∷ (10, 10) ∷ (13, 13) ∷ []) rule.WHITESPACE refl refl refl (outside_choice s.classes ((32, 32) ∷ (9, 9) ∷ []) ((10, 10) ∷ (13, 13) ∷ []) false false (outside_set s.classes (one_of_two s.classes (one_text s.classes 32) (one_text s.classes 9))) (outside_sub s.classes ((10, 10) ∷ (13, 13) ∷ []) rule.newline refl refl refl (outside_choice s.classes ((10, 10) ∷ []) ((13, 13) ∷ []) false false (outside_set s.classes (one_text s.classes 10)) (outside_text s.classes))))) refl refl refl)) (within s rule.WHITESPACE refl refl refl (either s 886 885 887 refl (at_once s) (one_of s 1 (one_of_two s.classes (one_text s.classes 32) (one_text s.classes 9)) refl refl refl) (tested s 2 (outside_sub s.classes ((10, 10) ∷ (13, 13) ∷ []) rule.newline refl refl refl (outside_choice s.classes ((10, 10) ∷ []) ((13, 13) ∷ []) false false (outside_set s.classes (one_text s.classes 10)) (outside_text s.classes))) refl refl refl) (within s rule.newline refl refl refl (either s 888 887 888 refl (at_once s) (word s 30 refl refl refl) (at_once s) (word s 31 refl refl refl)))))) (between s) (many s 889 (op.IsOne 3 889 883) refl (λ c z. z) (tight_between s) refl (inl (tested s 3 (outside_seq s.classes ((47, 47) ∷ (47, 47) ∷ []) false (outside_sub s.classes ((47, 47) ∷ (47, 47) ∷ []) rule.COMMENT refl refl refl (outside_choice s.classes ((47, 47) ∷ []) ((47, 47) ∷ []) false false (outside_sub s.classes ((47, 47) ∷ []) rule.block_comment refl refl refl (outside_seq s.classes ((47, 47) ∷ []) false (outside_seq s.classes ((47, 47) ∷ []) false (outside_text s.classes)))) (outside_sub s.classes ((47, 47) ∷ []) rule.line_comment refl refl refl (outside_seq s.classes ((47, 47) ∷ []) false (outside_seq s.classes ((47, 47) ∷ []) false (outside_text s.classes))))))) refl refl refl)) (tries s 890 892 892 891 refl (enters s rule.COMMENT 191 192 at_COMMENT_atomic_apart refl refl refl refl refl) (between s) (many s 893 (op.IsOne 0 893 891) refl (λ c z. z) (tight_between s) refl (inl (tested s 0 (outside_sub s.classes ((32, 32) ∷ (9, 9) ∷ (10, 10) ∷ (13, 13) ∷ []) rule.WHITESPACE refl refl refl (outside_choice s.classes ((32, 32) ∷ (9, 9) ∷ []) ((10, 10) ∷ (13, 13) ∷ []) false false (outside_set s.classes (one_of_two s.classes (one_text s.classes 32) (one_text s.classes 9))) (outside_sub s.classes ((10, 10) ∷ (13, 13) ∷ []) rule.newline refl refl refl (outside_choice s.classes ((10, 10) ∷ []) ((13, 13) ∷ []) false false (outside_set s.classes (one_text s.classes 10)) (outside_text s.classes))))) refl refl refl)) (within s rule.WHITESPACE refl refl refl (either s 894 893 895 refl (at_once s) (one_of s 1 (one_of_two s.classes (one_text s.classes 32) (one_text s.classes 9)) refl refl refl) (tested s 2 (outside_sub s.classes ((10, 10) ∷ (13, 13) ∷ []) rule.newline refl refl refl (outside_choice s.classes ((10, 10) ∷ []) ((13, 13) ∷ []) false false (outside_set s.classes (one_text s.classes 10)) (outside_text s.classes))) refl refl refl) (within s rule.newline refl refl refl (either s 896 895 896 refl (at_once s) (word s 30 refl refl refl) (at_once s) (word s 31 refl refl refl)))))) refl)))) (calls s rule.comma 143 144 at_comma_plain refl refl refl refl refl)) (trivia_in_place s (seq 897 897 (many s 898 (op.IsOne 0 898 897) refl (λ c z. z) (tight_between s) refl (inl (tested s 0 (outside_sub s.classes ((32, 32) ∷ (9, 9) ∷ (10, 10) ∷ (13, 13) ∷ []) rule.WHITESPACE refl refl refl (outside_choice s.classes ((32, 32) ∷ (9, 9) ∷ []) ((10, 10) ∷ (13, 13) ∷ []) false false (outside_set s.classes (one_of_two s.classes (one_text s.classes 32) (one_text s.classes 9))) (outside_sub s.classes ((10, 10) ∷ (13, 13) ∷ []) rule.newline refl refl refl (outside_choice s.classes ((10, 10) ∷ []) ((13, 13) ∷ []) false false (outside_set s.classes (one_text s.classes 10)) (outside_text s.classes))))) refl refl refl)) (within s rule.WHITESPACE refl refl refl (either s 899 898 900 refl (at_once s) (one_of s 1 (one_of_two s.classes (one_text s.classes 32) (one_text s.classes 9)) refl refl refl) (tested s 2 (outside_sub s.classes ((10, 10) ∷ (13, 13) ∷ []) rule.newline refl refl refl (outside_choice s.classes ((10, 10) ∷ []) ((13, 13) ∷ []) false false (outside_set s.classes (one_text s.classes 10)) (outside_text s.classes))) refl refl refl) (within s rule.newline refl refl refl (either s 901 900 901 refl (at_once s) (word s 30 refl refl refl) (at_once s) (word s 31 refl refl refl)))))) (between s) (many s 902 (op.IsOne 3 902 881) refl (λ c z. z) (tight_between s) refl (inl (tested s 3 (outside_seq s.classes ((47, 47) ∷ (47, 47) ∷ []) false (outside_sub s.classes ((47, 47) ∷ (47, 47) ∷ []) rule.COMMENT refl refl refl (outside_choice s.classes ((47, 47) ∷ []) ((47, 47) ∷ []) false false (outside_sub s.classes ((47, 47) ∷ []) rule.block_comment refl refl refl (outside_seq s.classes ((47, 47) ∷ []) false (outside_seq s.classes ((47, 47) ∷ []) false (outside_text s.classes)))) (outside_sub s.classes ((47, 47) ∷ []) rule.line_comment refl refl refl (outside_seq s.classes ((47, 47) ∷ []) false (outside_seq s.classes ((47, 47) ∷ []) false (outside_text s.classes))))))) refl refl refl)) (tries s 903 905 905 904 refl (enters s rule.COMMENT 191 192 at_COMMENT_atomic_apart refl refl refl refl refl) (between s) (many s 906 (op.IsOne 0 906 904) refl (λ c z. z) (tight_between s) refl (inl (tested s 0 (outside_sub s.classes ((32, 32) ∷ (9, 9) ∷ (10, 10) ∷ (13, 13) ∷ []) rule.WHITESPACE refl refl refl (outside_choice s.classes ((32, 32) ∷ (9, 9) ∷ []) ((10, 10) ∷ (13, 13) ∷ []) false false (outside_set s.classes (one_of_two s.classes (one_text s.classes 32) (one_text s.classes 9))) (outside_sub s.classes ((10, 10) ∷ (13, 13) ∷ []) rule.newline refl refl refl (outside_choice s.classes ((10, 10) ∷ []) ((13, 13) ∷ []) false false (outside_set s.classes (one_text s.classes 10)) (outside_text s.classes))))) refl refl refl)) (within s rule.WHITESPACE refl refl refl (either s 907 906 908 refl (at_once s) (one_of s 1 (one_of_two s.classes (one_text s.classes 32) (one_text s.classes 9)) refl refl refl) (tested s 2 (outside_sub s.classes ((10, 10) ∷ (13, 13) ∷ []) rule.newline refl refl refl (outside_choice s.classes ((10, 10) ∷ []) ((13, 13) ∷ []) false false (outside_set s.classes (one_text s.classes 10)) (outside_text s.classes))) refl refl refl) (within s rule.newline refl refl refl (either s 909 908 909 refl (at_once s) (word s 30 refl refl refl) (at_once s) (word s 31 refl refl refl)))))) refl)))) (calls s rule.number 139 140 at_number_atomic refl refl refl refl refl)) (trivia_in_place s (seq 910 910 (many s 911 (op.IsOne 0 911 910) refl (λ c z. z) (tight_between s) refl (inl (tested s 0 (outside_sub s.classes ((32, 32) ∷ (9, 9) ∷ (10, 10) ∷ (13, 13) ∷ []) rule.WHITESPACE refl refl refl (outside_choice s.classes ((32, 32) ∷ (9, 9) ∷ []) ((10, 10) ∷ (13, 13) ∷ []) false false (outside_set s.classes (one_of_two s.classes (one_text s.classes 32) (one_text s.classes 9))) (outside_sub s.classes ((10, 10) ∷ (13, 13) ∷ []) rule.newline refl refl refl (outside_choice s.classes ((10, 10) ∷ []) ((13, 13) ∷ []) false false (outside_set s.classes (one_text s.classes 10)) (outside_text s.classes))))) refl refl refl)) (within s rule.WHITESPACE refl refl refl (either s 912 911 913 refl (at_once s) (one_of s 1 (one_of_two s.classes (one_text s.classes 32) (one_text s.classes 9)) refl refl refl) (tested s 2 (outside_sub s.classes ((10, 10) ∷ (13, 13) ∷ []) rule.newline refl refl refl (outside_choice s.classes ((10, 10) ∷ []) ((13, 13) ∷ []) false false (outside_set s.classes (one_text s.classes 10)) (outside_text s.classes))) refl refl refl) (within s rule.newline refl refl refl (either s 914 913 914 refl (at_once s) (word s 30 refl refl refl) (at_once s) (word s 31 refl refl refl)))))) (between s) (many s 915 (op.IsOne 3 915 879) refl (λ c z. z) (tight_between s) refl (inl (tested s 3 (outside_seq s.classes ((47, 47) ∷ (47, 47) ∷ []) false (outside_sub s.classes ((47, 47) ∷ (47, 47) ∷ []) rule.COMMENT refl refl refl (outside_choice s.classes ((47, 47) ∷ []) ((47, 47) ∷ []) false false (outside_sub s.classes ((47, 47) ∷ []) rule.block_comment refl refl refl (outside_seq s.classes ((47, 47) ∷ []) false (outside_seq s.classes ((47, 47) ∷ []) false (outside_text s.classes)))) (outside_sub s.classes ((47, 47) ∷ []) rule.line_comment refl refl refl (outside_seq s.classes ((47, 47) ∷ []) false (outside_seq s.classes ((47, 47) ∷ []) false (outside_text s.classes))))))) refl refl refl)) (tries s 916 918 918 917 refl (enters s rule.COMMENT 191 192 at_COMMENT_atomic_apart refl refl refl refl refl) (between s) (many s 919 (op.IsOne 0 919 917) refl (λ c z. z) (tight_between s) refl (inl (tested s 0 (outside_sub s.classes ((32, 32) ∷ (9, 9) ∷ (10, 10) ∷ (13, 13) ∷ []) rule.WHITESPACE refl refl refl (outside_choice s.classes ((32, 32) ∷ (9, 9) ∷ []) ((10, 10) ∷ (13, 13) ∷ []) false false (outside_set s.classes (one_of_two s.classes (one_text s.classes 32) (one_text s.classes 9))) (outside_sub s.classes ((10, 10) ∷ (13, 13) ∷ []) rule.newline refl refl refl (outside_choice s.classes ((10, 10) ∷ []) ((13, 13) ∷ []) false false (outside_set s.classes (one_text s.classes 10)) (outside_text s.classes))))) refl refl refl)) (within s rule.WHITESPACE refl refl refl (either s 920 919 921 refl (at_once s) (one_of s 1 (one_of_two s.classes (one_text s.classes 32) (one_text s.classes 9)) refl refl refl) (tested s 2 (outside_sub s.classes ((10, 10) ∷ (13, 13) ∷ []) rule.newline refl refl refl (outside_choice s.classes ((10, 10) ∷ []) ((13, 13) ∷ []) false false (outside_set s.classes (one_text s.classes 10)) (outside_text s.classes))) refl refl refl) (within s rule.newline refl refl refl (either s 922 921 922 refl (at_once s) (word s 30 refl refl refl) (at_once s) (word s 31 refl refl refl)))))) refl)))) (calls s rule.closing_brace 79 80 at_closing_brace_plain refl refl refl refl refl)
 
   repeat_min_max_plain : Laid s (Run NonAtomicMode (body_of rule.repeat_min_max)) 137 138 0
   unfolding whitespace comment
-  repeat_min_max_plain = seq 923 924 (seq 925 926 (seq 927 928 (seq 929 930 (calls s rule.opening_brace 77 78 at_opening_brace_plain refl refl refl refl refl) (gap_in_place s (seq 931 931 (many s 932 (op.IsOne 0 932 931) refl (λ c z. z) (tight_between s) refl (inl (tested s 0 (outside_sub s.classes ((32, 32) ∷ (9, 9) ∷ (10, 10) ∷ (13, 13) ∷ []) rule.WHITESPACE refl refl refl (outside_choice s.classes ((32, 32) ∷ (9, 9) ∷ []) ((10, 10) ∷ (13, 13) ∷ []) false false (outside_set s.classes (one_of_two s.classes (one_text s.classes 32) (one_text s.classes 9))) (outside_sub s.classes ((10, 10) ∷ (13, 13) ∷ []) rule.newline refl refl refl (outside_choice s.classes ((10, 10) ∷ []) ((13, 13) ∷ []) false false (outside_set s.classes (one_text s.classes 10)) (outside_text s.classes))))) refl refl refl)) (within s rule.WHITESPACE refl refl refl (either s 933 932 934 refl (at_once s) (one_of s 1 (one_of_two s.classes (one_text s.classes 32) (one_text s.classes 9)) refl refl refl) (tested s 2 (outside_sub s.classes ((10, 10) ∷ (13, 13) ∷ []) rule.newline refl refl refl (outside_choice s.classes ((10, 10) ∷ []) ((13, 13) ∷ []) false false (outside_set s.classes (one_text s.classes 10)) (outside_text s.classes))) refl refl refl) (within s rule.newline refl refl refl (either s 935 934 935 refl (at_once s) (word s 30 refl refl refl) (at_once s) (word s 31 refl refl refl)))))) (between s) (many s 936 (op.IsOne 3 936 930) refl (λ c z. z) (tight_between s) refl (inl (tested s 3 (outside_seq s.classes ((47, 47) ∷ (47, 47) ∷ []) false (outside_sub s.classes ((47, 47) ∷ (47, 47) ∷ []) rule.COMMENT refl refl refl (outside_choice s.classes ((47, 47) ∷ []) ((47, 47) ∷ []) false false (outside_sub s.classes ((47, 47) ∷ []) rule.block_comment refl refl refl (outside_seq s.classes ((47, 47) ∷ []) false (outside_seq s.classes ((47, 47) ∷ []) false (outside_text s.classes)))) (outside_sub s.classes ((47, 47) ∷ []) rule.line_comment refl refl refl (outside_seq s.classes ((47, 47) ∷ []) false (outside_seq s.classes ((47, 47) ∷ []) false (outside_text s.classes))))))) refl refl refl)) (tries s 937 939 939 938 refl (enters s rule.COMMENT 191 192 at_COMMENT_atomic_apart refl refl refl refl refl) (between s) (many s 940 (op.IsOne 0 940 938) refl (λ c z. z) (tight_between s) refl (inl (tested s 0 (outside_sub s.classes ((32, 32) ∷ (9, 9) ∷ (10, 10) ∷ (13, 13) ∷ []) rule.WHITESPACE refl refl refl (outside_choice s.classes ((32, 32) ∷ (9, 9) ∷ []) ((10, 10) ∷ (13, 13) ∷ []) false false (outside_set s.classes (one_of_two s.classes (one_text s.classes 32) (one_text s.classes 9))) (outside_sub s.classes ((10, 10) ∷ (13, 13) ∷ []) rule.newline refl refl refl (outside_choice s.classes ((10, 10) ∷ []) ((13, 13) ∷ []) false false (outside_set s.classes (one_text s.classes 10)) (outside_text s.classes))))) refl refl refl)) (within s rule.WHITESPACE refl refl refl (either s 941 940 942 refl (at_once s) (one_of s 1 (one_of_two s.classes (one_text s.classes 32) (one_text s.classes 9)) refl refl refl) (tested s 2 (outside_sub s.classes ((10, 10) ∷ (13, 13) ∷ []) rule.newline refl refl refl (outside_choice s.classes ((10, 10) ∷ []) ((13, 13) ∷ []) false false (outside_set s.classes (one_text s.classes 10)) (outside_text s.classes))) refl refl refl) (within s rule.newline refl refl refl (either s 943 942 943 refl (at_once s) (word s 30 refl refl refl) (at_once s) (word s 31 refl refl refl)))))) refl)))) (calls s rule.number 139 140 at_number_atomic refl refl refl refl refl)) (gap_in_place s (seq 944 944 (many s 945 (op.IsOne 0 945 944) refl (λ c z. z) (tight_between s) refl (inl (tested s 0 (outside_sub s.classes ((32, 32) ∷ (9, 9) ∷ (10, 10) ∷ (13, 13) ∷ []) rule.WHITESPACE refl refl refl (outside_choice s.classes ((32, 32) ∷ (9, 9) ∷ []) ((10, 10) ∷ (13, 13) ∷ []) false false (outside_set s.classes (one_of_two s.classes (one_text s.classes 32) (one_text s.classes 9))) (outside_sub s.classes ((10, 10) ∷ (13, 13) ∷ []) rule.newline refl refl refl (outside_choice s.classes ((10, 10) ∷ []) ((13, 13) ∷ []) false false (outside_set s.classes (one_text s.classes 10)) (outside_text s.classes))))) refl refl refl)) (within s rule.WHITESPACE refl refl refl (either s 946 945 947 refl (at_once s) (one_of s 1 (one_of_two s.classes (one_text s.classes 32) (one_text s.classes 9)) refl refl refl) (tested s 2 (outside_sub s.classes ((10, 10) ∷ (13, 13) ∷ []) rule.newline refl refl refl (outside_choice s.classes ((10, 10) ∷ []) ((13, 13) ∷ []) false false (outside_set s.classes (one_text s.classes 10)) (outside_text s.classes))) refl refl refl) (within s rule.newline refl refl refl (either s 948 947 948 refl (at_once s) (word s 30 refl refl refl) (at_once s) (word s 31 refl refl refl)))))) (between s) (many s 949 (op.IsOne 3 949 928) refl (λ c z. z) (tight_between s) refl (inl (tested s 3 (outside_seq s.classes ((47, 47) ∷ (47, 47) ∷ []) false (outside_sub s.classes ((47, 47) ∷ (47, 47) ∷ []) rule.COMMENT refl refl refl (outside_choice s.classes ((47, 47) ∷ []) ((47, 47) ∷ []) false false (outside_sub s.classes ((47, 47) ∷ []) rule.block_comment refl refl refl (outside_seq s.classes ((47, 47) ∷ []) false (outside_seq s.classes ((47, 47) ∷ []) false (outside_text s.classes)))) (outside_sub s.classes ((47, 47) ∷ []) rule.line_comment refl refl refl (outside_seq s.classes ((47, 47) ∷ []) false (outside_seq s.classes ((47, 47) ∷ []) false (outside_text s.classes))))))) refl refl refl)) (tries s 950 952 952 951 refl (enters s rule.COMMENT 191 192 at_COMMENT_atomic_apart refl refl refl refl refl) (between s) (many s 953 (op.IsOne 0 953 951) refl (λ c z. z) (tight_between s) refl (inl (tested s 0 (outside_sub s.classes ((32, 32) ∷ (9, 9) ∷ (10, 10) ∷ (13, 13) ∷ []) rule.WHITESPACE refl refl refl (outside_choice s.classes ((32, 32) ∷ (9, 9) ∷ []) ((10, 10) ∷ (13, 13) ∷ []) false false (outside_set s.classes (one_of_two s.classes (one_text s.classes 32) (one_text s.classes 9))) (outside_sub s.classes ((10, 10) ∷ (13, 13) ∷ []) rule.newline refl refl refl (outside_choice s.classes ((10, 10) ∷ []) ((13, 13) ∷ []) false false (outside_set s.classes (one_text s.classes 10)) (outside_text s.classes))))) refl refl refl)) (within s rule.WHITESPACE refl refl refl (either s 954 953 955 refl (at_once s) (one_of s 1 (one_of_two s.classes (one_text s.classes 32) (one_text s.classes 9)) refl refl refl) (tested s 2 (outside_sub s.classes ((10, 10) ∷ (13, 13) ∷ []) rule.newline refl refl refl (outside_choice s.classes ((10, 10) ∷ []) ((13, 13) ∷ []) false false (outside_set s.classes (one_text s.classes 10)) (outside_text s.classes))) refl refl refl) (within s rule.newline refl refl refl (either s 956 955 956 refl (at_once s) (word s 30 refl refl refl) (at_once s) (word s 31 refl refl refl)))))) refl)))) (calls s rule.comma 143 144 at_comma_plain refl refl refl refl refl)) (gap_in_place s (seq 957 957 (many s 958 (op.IsOne 0 958 957) refl (λ c z. z) (tight_between s) refl (inl (tested s 0 (outside_sub s.classes ((32, 32) ∷ (9, 9) ∷ (10, 10) ∷ (13, 13) ∷ []) rule.WHITESPACE refl refl refl (outside_choice s.classes ((32, 32) ∷ (9, 9) ∷ []) ((10, 10) ∷ (13, 13) ∷ []) false false (outside_set s.classes (one_of_two s.classes (one_text s.classes 32) (one_text s.classes 9))) (outside_sub s.classes ((10, 10) ∷ (13, 13) ∷ []) rule.newline refl refl refl (outside_choice s.classes ((10, 10) ∷ []) ((13, 13) ∷ []) false false (outside_set s.classes (one_text s.classes 10)) (outside_text s.classes))))) refl refl refl)) (within s rule.WHITESPACE refl refl refl (either s 959 958 960 refl (at_once s) (one_of s 1 (one_of_two s.classes (one_text s.classes 32) (one_text s.classes 9)) refl refl refl) (tested s 2 (outside_sub s.classes ((10, 10) ∷ (13, 13) ∷ []) rule.newline refl refl refl (outside_choice s.classes ((10, 10) ∷ []) ((13, 13) ∷ []) false false (outside_set s.classes (one_text s.classes 10)) (outside_text s.classes))) refl refl refl) (within s rule.newline refl refl refl (either s 961 960 961 refl (at_once s) (word s 30 refl refl refl) (at_once s) (word s 31 refl refl refl)))))) (between s) (many s 962 (op.IsOne 3 962 926) refl (λ c z. z) (tight_between s) refl (inl (tested s 3 (outside_seq s.classes ((47, 47) ∷ (47, 47) ∷ []) false (outside_sub s.classes ((47, 47) ∷ (47, 47) ∷ []) rule.COMMENT refl refl refl (outside_choice s.classes ((47, 47) ∷ []) ((47, 47) ∷ []) false false (outside_sub s.classes ((47, 47) ∷ []) rule.block_comment refl refl refl (outside_seq s.classes ((47, 47) ∷ []) false (outside_seq s.classes ((47, 47) ∷ []) false (outside_text s.classes)))) (outside_sub s.classes ((47, 47) ∷ []) rule.line_comment refl refl refl (outside_seq s.classes ((47, 47) ∷ []) false (outside_seq s.classes ((47, 47) ∷ []) false (outside_text s.classes))))))) refl refl refl)) (tries s 963 965 965 964 refl (enters s rule.COMMENT 191 192 at_COMMENT_atomic_apart refl refl refl refl refl) (between s) (many s 966 (op.IsOne 0 966 964) refl (λ c z. z) (tight_between s) refl (inl (tested s 0 (outside_sub s.classes ((32, 32) ∷ (9, 9) ∷ (10, 10) ∷ (13, 13) ∷ []) rule.WHITESPACE refl refl refl (outside_choice s.classes ((32, 32) ∷ (9, 9) ∷ []) ((10, 10) ∷ (13, 13) ∷ []) false false (outside_set s.classes (one_of_two s.classes (one_text s.classes 32) (one_text s.classes 9))) (outside_sub s.classes ((10, 10) ∷ (13, 13) ∷ []) rule.newline refl refl refl (outside_choice s.classes ((10, 10) ∷ []) ((13, 13) ∷ []) false false (outside_set s.classes (one_text s.classes 10)) (outside_text s.classes))))) refl refl refl)) (within s rule.WHITESPACE refl refl refl (either s 967 966 968 refl (at_once s) (one_of s 1 (one_of_two s.classes (one_text s.classes 32) (one_text s.classes 9)) refl refl refl) (tested s 2 (outside_sub s.classes ((10, 10) ∷ (13, 13) ∷ []) rule.newline refl refl refl (outside_choice s.classes ((10, 10) ∷ []) ((13, 13) ∷ []) false false (outside_set s.classes (one_text s.classes 10)) (outside_text s.classes))) refl refl refl) (within s rule.newline refl refl refl (either s 969 968 969 refl (at_once s) (word s 30 refl refl refl) (at_once s) (word s 31 refl refl refl)))))) refl)))) (calls s rule.number 139 140 at_number_atomic refl refl refl refl refl)) (gap_in_place s (seq 970 970 (many s 971 (op.IsOne 0 971 970) refl (λ c z. z) (tight_between s) refl (inl (tested s 0 (outside_sub s.classes ((32, 32) ∷ (9, 9) ∷ (10, 10) ∷ (13, 13) ∷ []) rule.WHITESPACE refl refl refl (outside_choice s.classes ((32, 32) ∷ (9, 9) ∷ []) ((10, 10) ∷ (13, 13) ∷ []) false false (outside_set s.classes (one_of_two s.classes (one_text s.classes 32) (one_text s.classes 9))) (outside_sub s.classes ((10, 10) ∷ (13, 13) ∷ []) rule.newline refl refl refl (outside_choice s.classes ((10, 10) ∷ []) ((13, 13) ∷ []) false false (outside_set s.classes (one_text s.classes 10)) (outside_text s.classes))))) refl refl refl)) (within s rule.WHITESPACE refl refl refl (either s 972 971 973 refl (at_once s) (one_of s 1 (one_of_two s.classes (one_text s.classes 32) (one_text s.classes 9)) refl refl refl) (tested s 2 (outside_sub s.classes ((10, 10) ∷ (13, 13) ∷ []) rule.newline refl refl refl (outside_choice s.classes ((10, 10) ∷ []) ((13, 13) ∷ []) false false (outside_set s.classes (one_text s.classes 10)) (outside_text s.classes))) refl refl refl) (within s rule.newline refl refl refl (either s 974 973 974 refl (at_once s) (word s 30 refl refl refl) (at_once s) (word s 31 refl refl refl)))))) (between s) (many s 975 (op.IsOne 3 975 924) refl (λ c z. z) (tight_between s) refl (inl (tested s 3 (outside_seq s.classes ((47, 47) ∷ (47, 47) ∷ []) false (outside_sub s.classes ((47, 47) ∷ (47, 47) ∷ []) rule.COMMENT refl refl refl (outside_choice s.classes ((47, 47) ∷ []) ((47, 47) ∷ []) false false (outside_sub s.classes ((47, 47) ∷ []) rule.block_comment refl refl refl (outside_seq s.classes ((47, 47) ∷ []) false (outside_seq s.classes ((47, 47) ∷ []) false (outside_text s.classes)))) (outside_sub s.classes ((47, 47) ∷ []) rule.line_comment refl refl refl (outside_seq s.classes ((47, 47) ∷ []) false (outside_seq s.classes ((47, 47) ∷ []) false (outside_text s.classes))))))) refl refl refl)) (tries s 976 978 978 977 refl (enters s rule.COMMENT 191 192 at_COMMENT_atomic_apart refl refl refl refl refl) (between s) (many s 979 (op.IsOne 0 979 977) refl (λ c z. z) (tight_between s) refl (inl (tested s 0 (outside_sub s.classes ((32, 32) ∷ (9, 9) ∷ (10, 10) ∷ (13, 13) ∷ []) rule.WHITESPACE refl refl refl (outside_choice s.classes ((32, 32) ∷ (9, 9) ∷ []) ((10, 10) ∷ (13, 13) ∷ []) false false (outside_set s.classes (one_of_two s.classes (one_text s.classes 32) (one_text s.classes 9))) (outside_sub s.classes ((10, 10) ∷ (13, 13) ∷ []) rule.newline refl refl refl (outside_choice s.classes ((10, 10) ∷ []) ((13, 13) ∷ []) false false (outside_set s.classes (one_text s.classes 10)) (outside_text s.classes))))) refl refl refl)) (within s rule.WHITESPACE refl refl refl (either s 980 979 981 refl (at_once s) (one_of s 1 (one_of_two s.classes (one_text s.classes 32) (one_text s.classes 9)) refl refl refl) (tested s 2 (outside_sub s.classes ((10, 10) ∷ (13, 13) ∷ []) rule.newline refl refl refl (outside_choice s.classes ((10, 10) ∷ []) ((13, 13) ∷ []) false false (outside_set s.classes (one_text s.classes 10)) (outside_text s.classes))) refl refl refl) (within s rule.newline refl refl refl (either s 982 981 982 refl (at_once s) (word s 30 refl refl refl) (at_once s) (word s 31 refl refl refl)))))) refl)))) (calls s rule.closing_brace 79 80 at_closing_brace_plain refl refl refl refl refl)
+  repeat_min_max_plain = seq 923 924 (seq 925 926 (seq 927 928 (seq 929 930 (calls s rule.opening_brace 77 78 at_opening_brace_plain refl refl refl refl refl) (trivia_in_place s (seq 931 931 (many s 932 (op.IsOne 0 932 931) refl (λ c z. z) (tight_between s) refl (inl (tested s 0 (outside_sub s.classes ((32, 32) ∷ (9, 9) ∷ (10, 10) ∷ (13, 13) ∷ []) rule.WHITESPACE refl refl refl (outside_choice s.classes ((32, 32) ∷ (9, 9) ∷ []) ((10, 10) ∷ (13, 13) ∷ []) false false (outside_set s.classes (one_of_two s.classes (one_text s.classes 32) (one_text s.classes 9))) (outside_sub s.classes ((10, 10) ∷ (13, 13) ∷ []) rule.newline refl refl refl (outside_choice s.classes ((10, 10) ∷ []) ((13, 13) ∷ []) false false (outside_set s.classes (one_text s.classes 10)) (outside_text s.classes))))) refl refl refl)) (within s rule.WHITESPACE refl refl refl (either s 933 932 934 refl (at_once s) (one_of s 1 (one_of_two s.classes (one_text s.classes 32) (one_text s.classes 9)) refl refl refl) (tested s 2 (outside_sub s.classes ((10, 10) ∷ (13, 13) ∷ []) rule.newline refl refl refl (outside_choice s.classes ((10, 10) ∷ []) ((13, 13) ∷ []) false false (outside_set s.classes (one_text s.classes 10)) (outside_text s.classes))) refl refl refl) (within s rule.newline refl refl refl (either s 935 934 935 refl (at_once s) (word s 30 refl refl refl) (at_once s) (word s 31 refl refl refl)))))) (between s) (many s 936 (op.IsOne 3 936 930) refl (λ c z. z) (tight_between s) refl (inl (tested s 3 (outside_seq s.classes ((47, 47) ∷ (47, 47) ∷ []) false (outside_sub s.classes ((47, 47) ∷ (47, 47) ∷ []) rule.COMMENT refl refl refl (outside_choice s.classes ((47, 47) ∷ []) ((47, 47) ∷ []) false false (outside_sub s.classes ((47, 47) ∷ []) rule.block_comment refl refl refl (outside_seq s.classes ((47, 47) ∷ []) false (outside_seq s.classes ((47, 47) ∷ []) false (outside_text s.classes)))) (outside_sub s.classes ((47, 47) ∷ []) rule.line_comment refl refl refl (outside_seq s.classes ((47, 47) ∷ []) false (outside_seq s.classes ((47, 47) ∷ []) false (outside_text s.classes))))))) refl refl refl)) (tries s 937 939 939 938 refl (enters s rule.COMMENT 191 192 at_COMMENT_atomic_apart refl refl refl refl refl) (between s) (many s 940 (op.IsOne 0 940 938) refl (λ c z. z) (tight_between s) refl (inl (tested s 0 (outside_sub s.classes ((32, 32) ∷ (9, 9) ∷ (10, 10) ∷ (13, 13) ∷ []) rule.WHITESPACE refl refl refl (outside_choice s.classes ((32, 32) ∷ (9, 9) ∷ []) ((10, 10) ∷ (13, 13) ∷ []) false false (outside_set s.classes (one_of_two s.classes (one_text s.classes 32) (one_text s.classes 9))) (outside_sub s.classes ((10, 10) ∷ (13, 13) ∷ []) rule.newline refl refl refl (outside_choice s.classes ((10, 10) ∷ []) ((13, 13) ∷ []) false false (outside_set s.classes (one_text s.classes 10)) (outside_text s.classes))))) refl refl refl)) (within s rule.WHITESPACE refl refl refl (either s 941 940 942 refl (at_once s) (one_of s 1 (one_of_two s.classes (one_text s.classes 32) (one_text s.classes 9)) refl refl refl) (tested s 2 (outside_sub s.classes ((10, 10) ∷ (13, 13) ∷ []) rule.newline refl refl refl (outside_choice s.classes ((10, 10) ∷ []) ((13, 13) ∷ []) false false (outside_set s.classes (one_text s.classes 10)) (outside_text s.classes))) refl refl refl) (within s rule.newline refl refl refl (either s 943 942 943 refl (at_once s) (word s 30 refl refl refl) (at_once s) (word s 31 refl refl refl)))))) refl)))) (calls s rule.number 139 140 at_number_atomic refl refl refl refl refl)) (trivia_in_place s (seq 944 944 (many s 945 (op.IsOne 0 945 944) refl (λ c z. z) (tight_between s) refl (inl (tested s 0 (outside_sub s.classes ((32, 32) ∷ (9, 9) ∷ (10, 10) ∷ (13, 13) ∷ []) rule.WHITESPACE refl refl refl (outside_choice s.classes ((32, 32) ∷ (9, 9) ∷ []) ((10, 10) ∷ (13, 13) ∷ []) false false (outside_set s.classes (one_of_two s.classes (one_text s.classes 32) (one_text s.classes 9))) (outside_sub s.classes ((10, 10) ∷ (13, 13) ∷ []) rule.newline refl refl refl (outside_choice s.classes ((10, 10) ∷ []) ((13, 13) ∷ []) false false (outside_set s.classes (one_text s.classes 10)) (outside_text s.classes))))) refl refl refl)) (within s rule.WHITESPACE refl refl refl (either s 946 945 947 refl (at_once s) (one_of s 1 (one_of_two s.classes (one_text s.classes 32) (one_text s.classes 9)) refl refl refl) (tested s 2 (outside_sub s.classes ((10, 10) ∷ (13, 13) ∷ []) rule.newline refl refl refl (outside_choice s.classes ((10, 10) ∷ []) ((13, 13) ∷ []) false false (outside_set s.classes (one_text s.classes 10)) (outside_text s.classes))) refl refl refl) (within s rule.newline refl refl refl (either s 948 947 948 refl (at_once s) (word s 30 refl refl refl) (at_once s) (word s 31 refl refl refl)))))) (between s) (many s 949 (op.IsOne 3 949 928) refl (λ c z. z) (tight_between s) refl (inl (tested s 3 (outside_seq s.classes ((47, 47) ∷ (47, 47) ∷ []) false (outside_sub s.classes ((47, 47) ∷ (47, 47) ∷ []) rule.COMMENT refl refl refl (outside_choice s.classes ((47, 47) ∷ []) ((47, 47) ∷ []) false false (outside_sub s.classes ((47, 47) ∷ []) rule.block_comment refl refl refl (outside_seq s.classes ((47, 47) ∷ []) false (outside_seq s.classes ((47, 47) ∷ []) false (outside_text s.classes)))) (outside_sub s.classes ((47, 47) ∷ []) rule.line_comment refl refl refl (outside_seq s.classes ((47, 47) ∷ []) false (outside_seq s.classes ((47, 47) ∷ []) false (outside_text s.classes))))))) refl refl refl)) (tries s 950 952 952 951 refl (enters s rule.COMMENT 191 192 at_COMMENT_atomic_apart refl refl refl refl refl) (between s) (many s 953 (op.IsOne 0 953 951) refl (λ c z. z) (tight_between s) refl (inl (tested s 0 (outside_sub s.classes ((32, 32) ∷ (9, 9) ∷ (10, 10) ∷ (13, 13) ∷ []) rule.WHITESPACE refl refl refl (outside_choice s.classes ((32, 32) ∷ (9, 9) ∷ []) ((10, 10) ∷ (13, 13) ∷ []) false false (outside_set s.classes (one_of_two s.classes (one_text s.classes 32) (one_text s.classes 9))) (outside_sub s.classes ((10, 10) ∷ (13, 13) ∷ []) rule.newline refl refl refl (outside_choice s.classes ((10, 10) ∷ []) ((13, 13) ∷ []) false false (outside_set s.classes (one_text s.classes 10)) (outside_text s.classes))))) refl refl refl)) (within s rule.WHITESPACE refl refl refl (either s 954 953 955 refl (at_once s) (one_of s 1 (one_of_two s.classes (one_text s.classes 32) (one_text s.classes 9)) refl refl refl) (tested s 2 (outside_sub s.classes ((10, 10) ∷ (13, 13) ∷ []) rule.newline refl refl refl (outside_choice s.classes ((10, 10) ∷ []) ((13, 13) ∷ []) false false (outside_set s.classes (one_text s.classes 10)) (outside_text s.classes))) refl refl refl) (within s rule.newline refl refl refl (either s 956 955 956 refl (at_once s) (word s 30 refl refl refl) (at_once s) (word s 31 refl refl refl)))))) refl)))) (calls s rule.comma 143 144 at_comma_plain refl refl refl refl refl)) (trivia_in_place s (seq 957 957 (many s 958 (op.IsOne 0 958 957) refl (λ c z. z) (tight_between s) refl (inl (tested s 0 (outside_sub s.classes ((32, 32) ∷ (9, 9) ∷ (10, 10) ∷ (13, 13) ∷ []) rule.WHITESPACE refl refl refl (outside_choice s.classes ((32, 32) ∷ (9, 9) ∷ []) ((10, 10) ∷ (13, 13) ∷ []) false false (outside_set s.classes (one_of_two s.classes (one_text s.classes 32) (one_text s.classes 9))) (outside_sub s.classes ((10, 10) ∷ (13, 13) ∷ []) rule.newline refl refl refl (outside_choice s.classes ((10, 10) ∷ []) ((13, 13) ∷ []) false false (outside_set s.classes (one_text s.classes 10)) (outside_text s.classes))))) refl refl refl)) (within s rule.WHITESPACE refl refl refl (either s 959 958 960 refl (at_once s) (one_of s 1 (one_of_two s.classes (one_text s.classes 32) (one_text s.classes 9)) refl refl refl) (tested s 2 (outside_sub s.classes ((10, 10) ∷ (13, 13) ∷ []) rule.newline refl refl refl (outside_choice s.classes ((10, 10) ∷ []) ((13, 13) ∷ []) false false (outside_set s.classes (one_text s.classes 10)) (outside_text s.classes))) refl refl refl) (within s rule.newline refl refl refl (either s 961 960 961 refl (at_once s) (word s 30 refl refl refl) (at_once s) (word s 31 refl refl refl)))))) (between s) (many s 962 (op.IsOne 3 962 926) refl (λ c z. z) (tight_between s) refl (inl (tested s 3 (outside_seq s.classes ((47, 47) ∷ (47, 47) ∷ []) false (outside_sub s.classes ((47, 47) ∷ (47, 47) ∷ []) rule.COMMENT refl refl refl (outside_choice s.classes ((47, 47) ∷ []) ((47, 47) ∷ []) false false (outside_sub s.classes ((47, 47) ∷ []) rule.block_comment refl refl refl (outside_seq s.classes ((47, 47) ∷ []) false (outside_seq s.classes ((47, 47) ∷ []) false (outside_text s.classes)))) (outside_sub s.classes ((47, 47) ∷ []) rule.line_comment refl refl refl (outside_seq s.classes ((47, 47) ∷ []) false (outside_seq s.classes ((47, 47) ∷ []) false (outside_text s.classes))))))) refl refl refl)) (tries s 963 965 965 964 refl (enters s rule.COMMENT 191 192 at_COMMENT_atomic_apart refl refl refl refl refl) (between s) (many s 966 (op.IsOne 0 966 964) refl (λ c z. z) (tight_between s) refl (inl (tested s 0 (outside_sub s.classes ((32, 32) ∷ (9, 9) ∷ (10, 10) ∷ (13, 13) ∷ []) rule.WHITESPACE refl refl refl (outside_choice s.classes ((32, 32) ∷ (9, 9) ∷ []) ((10, 10) ∷ (13, 13) ∷ []) false false (outside_set s.classes (one_of_two s.classes (one_text s.classes 32) (one_text s.classes 9))) (outside_sub s.classes ((10, 10) ∷ (13, 13) ∷ []) rule.newline refl refl refl (outside_choice s.classes ((10, 10) ∷ []) ((13, 13) ∷ []) false false (outside_set s.classes (one_text s.classes 10)) (outside_text s.classes))))) refl refl refl)) (within s rule.WHITESPACE refl refl refl (either s 967 966 968 refl (at_once s) (one_of s 1 (one_of_two s.classes (one_text s.classes 32) (one_text s.classes 9)) refl refl refl) (tested s 2 (outside_sub s.classes ((10, 10) ∷ (13, 13) ∷ []) rule.newline refl refl refl (outside_choice s.classes ((10, 10) ∷ []) ((13, 13) ∷ []) false false (outside_set s.classes (one_text s.classes 10)) (outside_text s.classes))) refl refl refl) (within s rule.newline refl refl refl (either s 969 968 969 refl (at_once s) (word s 30 refl refl refl) (at_once s) (word s 31 refl refl refl)))))) refl)))) (calls s rule.number 139 140 at_number_atomic refl refl refl refl refl)) (trivia_in_place s (seq 970 970 (many s 971 (op.IsOne 0 971 970) refl (λ c z. z) (tight_between s) refl (inl (tested s 0 (outside_sub s.classes ((32, 32) ∷ (9, 9) ∷ (10, 10) ∷ (13, 13) ∷ []) rule.WHITESPACE refl refl refl (outside_choice s.classes ((32, 32) ∷ (9, 9) ∷ []) ((10, 10) ∷ (13, 13) ∷ []) false false (outside_set s.classes (one_of_two s.classes (one_text s.classes 32) (one_text s.classes 9))) (outside_sub s.classes ((10, 10) ∷ (13, 13) ∷ []) rule.newline refl refl refl (outside_choice s.classes ((10, 10) ∷ []) ((13, 13) ∷ []) false false (outside_set s.classes (one_text s.classes 10)) (outside_text s.classes))))) refl refl refl)) (within s rule.WHITESPACE refl refl refl (either s 972 971 973 refl (at_once s) (one_of s 1 (one_of_two s.classes (one_text s.classes 32) (one_text s.classes 9)) refl refl refl) (tested s 2 (outside_sub s.classes ((10, 10) ∷ (13, 13) ∷ []) rule.newline refl refl refl (outside_choice s.classes ((10, 10) ∷ []) ((13, 13) ∷ []) false false (outside_set s.classes (one_text s.classes 10)) (outside_text s.classes))) refl refl refl) (within s rule.newline refl refl refl (either s 974 973 974 refl (at_once s) (word s 30 refl refl refl) (at_once s) (word s 31 refl refl refl)))))) (between s) (many s 975 (op.IsOne 3 975 924) refl (λ c z. z) (tight_between s) refl (inl (tested s 3 (outside_seq s.classes ((47, 47) ∷ (47, 47) ∷ []) false (outside_sub s.classes ((47, 47) ∷ (47, 47) ∷ []) rule.COMMENT refl refl refl (outside_choice s.classes ((47, 47) ∷ []) ((47, 47) ∷ []) false false (outside_sub s.classes ((47, 47) ∷ []) rule.block_comment refl refl refl (outside_seq s.classes ((47, 47) ∷ []) false (outside_seq s.classes ((47, 47) ∷ []) false (outside_text s.classes)))) (outside_sub s.classes ((47, 47) ∷ []) rule.line_comment refl refl refl (outside_seq s.classes ((47, 47) ∷ []) false (outside_seq s.classes ((47, 47) ∷ []) false (outside_text s.classes))))))) refl refl refl)) (tries s 976 978 978 977 refl (enters s rule.COMMENT 191 192 at_COMMENT_atomic_apart refl refl refl refl refl) (between s) (many s 979 (op.IsOne 0 979 977) refl (λ c z. z) (tight_between s) refl (inl (tested s 0 (outside_sub s.classes ((32, 32) ∷ (9, 9) ∷ (10, 10) ∷ (13, 13) ∷ []) rule.WHITESPACE refl refl refl (outside_choice s.classes ((32, 32) ∷ (9, 9) ∷ []) ((10, 10) ∷ (13, 13) ∷ []) false false (outside_set s.classes (one_of_two s.classes (one_text s.classes 32) (one_text s.classes 9))) (outside_sub s.classes ((10, 10) ∷ (13, 13) ∷ []) rule.newline refl refl refl (outside_choice s.classes ((10, 10) ∷ []) ((13, 13) ∷ []) false false (outside_set s.classes (one_text s.classes 10)) (outside_text s.classes))))) refl refl refl)) (within s rule.WHITESPACE refl refl refl (either s 980 979 981 refl (at_once s) (one_of s 1 (one_of_two s.classes (one_text s.classes 32) (one_text s.classes 9)) refl refl refl) (tested s 2 (outside_sub s.classes ((10, 10) ∷ (13, 13) ∷ []) rule.newline refl refl refl (outside_choice s.classes ((10, 10) ∷ []) ((13, 13) ∷ []) false false (outside_set s.classes (one_text s.classes 10)) (outside_text s.classes))) refl refl refl) (within s rule.newline refl refl refl (either s 982 981 982 refl (at_once s) (word s 30 refl refl refl) (at_once s) (word s 31 refl refl refl)))))) refl)))) (calls s rule.closing_brace 79 80 at_closing_brace_plain refl refl refl refl refl)
 
   number_atomic : Laid s (Run AtomicMode (body_of rule.number)) 139 140 0
   unfolding whitespace comment
@@ -877,15 +877,15 @@ module _ (classes : Classes) (code : CodeLists) (is : IsFastCode code) where
 
   push__plain : Laid s (Run NonAtomicMode (body_of rule._push)) 145 146 0
   unfolding whitespace comment
-  push__plain = seq 992 993 (seq 994 995 (seq 996 997 (word s 20 refl refl refl) (gap_in_place s (seq 998 998 (many s 999 (op.IsOne 0 999 998) refl (λ c z. z) (tight_between s) refl (inl (tested s 0 (outside_sub s.classes ((32, 32) ∷ (9, 9) ∷ (10, 10) ∷ (13, 13) ∷ []) rule.WHITESPACE refl refl refl (outside_choice s.classes ((32, 32) ∷ (9, 9) ∷ []) ((10, 10) ∷ (13, 13) ∷ []) false false (outside_set s.classes (one_of_two s.classes (one_text s.classes 32) (one_text s.classes 9))) (outside_sub s.classes ((10, 10) ∷ (13, 13) ∷ []) rule.newline refl refl refl (outside_choice s.classes ((10, 10) ∷ []) ((13, 13) ∷ []) false false (outside_set s.classes (one_text s.classes 10)) (outside_text s.classes))))) refl refl refl)) (within s rule.WHITESPACE refl refl refl (either s 1000 999 1001 refl (at_once s) (one_of s 1 (one_of_two s.classes (one_text s.classes 32) (one_text s.classes 9)) refl refl refl) (tested s 2 (outside_sub s.classes ((10, 10) ∷ (13, 13) ∷ []) rule.newline refl refl refl (outside_choice s.classes ((10, 10) ∷ []) ((13, 13) ∷ []) false false (outside_set s.classes (one_text s.classes 10)) (outside_text s.classes))) refl refl refl) (within s rule.newline refl refl refl (either s 1002 1001 1002 refl (at_once s) (word s 30 refl refl refl) (at_once s) (word s 31 refl refl refl)))))) (between s) (many s 1003 (op.IsOne 3 1003 997) refl (λ c z. z) (tight_between s) refl (inl (tested s 3 (outside_seq s.classes ((47, 47) ∷ (47, 47) ∷ []) false (outside_sub s.classes ((47, 47) ∷ (47, 47) ∷ []) rule.COMMENT refl refl refl (outside_choice s.classes ((47, 47) ∷ []) ((47, 47) ∷ []) false false (outside_sub s.classes ((47, 47) ∷ []) rule.block_comment refl refl refl (outside_seq s.classes ((47, 47) ∷ []) false (outside_seq s.classes ((47, 47) ∷ []) false (outside_text s.classes)))) (outside_sub s.classes ((47, 47) ∷ []) rule.line_comment refl refl refl (outside_seq s.classes ((47, 47) ∷ []) false (outside_seq s.classes ((47, 47) ∷ []) false (outside_text s.classes))))))) refl refl refl)) (tries s 1004 1006 1006 1005 refl (enters s rule.COMMENT 191 192 at_COMMENT_atomic_apart refl refl refl refl refl) (between s) (many s 1007 (op.IsOne 0 1007 1005) refl (λ c z. z) (tight_between s) refl (inl (tested s 0 (outside_sub s.classes ((32, 32) ∷ (9, 9) ∷ (10, 10) ∷ (13, 13) ∷ []) rule.WHITESPACE refl refl refl (outside_choice s.classes ((32, 32) ∷ (9, 9) ∷ []) ((10, 10) ∷ (13, 13) ∷ []) false false (outside_set s.classes (one_of_two s.classes (one_text s.classes 32) (one_text s.classes 9))) (outside_sub s.classes ((10, 10) ∷ (13, 13) ∷ []) rule.newline refl refl refl (outside_choice s.classes ((10, 10) ∷ []) ((13, 13) ∷ []) false false (outside_set s.classes (one_text s.classes 10)) (outside_text s.classes))))) refl refl refl)) (within s rule.WHITESPACE refl refl refl (either s 1008 1007 1009 refl (at_once s) (one_of s 1 (one_of_two s.classes (one_text s.classes 32) (one_text s.classes 9)) refl refl refl) (tested s 2 (outside_sub s.classes ((10, 10) ∷ (13, 13) ∷ []) rule.newline refl refl refl (outside_choice s.classes ((10, 10) ∷ []) ((13, 13) ∷ []) false false (outside_set s.classes (one_text s.classes 10)) (outside_text s.classes))) refl refl refl) (within s rule.newline refl refl refl (either s 1010 1009 1010 refl (at_once s) (word s 30 refl refl refl) (at_once s) (word s 31 refl refl refl)))))) refl)))) (calls s rule.opening_paren 81 82 at_opening_paren_plain refl refl refl refl refl)) (gap_in_place s (seq 1011 1011 (many s 1012 (op.IsOne 0 1012 1011) refl (λ c z. z) (tight_between s) refl (inl (tested s 0 (outside_sub s.classes ((32, 32) ∷ (9, 9) ∷ (10, 10) ∷ (13, 13) ∷ []) rule.WHITESPACE refl refl refl (outside_choice s.classes ((32, 32) ∷ (9, 9) ∷ []) ((10, 10) ∷ (13, 13) ∷ []) false false (outside_set s.classes (one_of_two s.classes (one_text s.classes 32) (one_text s.classes 9))) (outside_sub s.classes ((10, 10) ∷ (13, 13) ∷ []) rule.newline refl refl refl (outside_choice s.classes ((10, 10) ∷ []) ((13, 13) ∷ []) false false (outside_set s.classes (one_text s.classes 10)) (outside_text s.classes))))) refl refl refl)) (within s rule.WHITESPACE refl refl refl (either s 1013 1012 1014 refl (at_once s) (one_of s 1 (one_of_two s.classes (one_text s.classes 32) (one_text s.classes 9)) refl refl refl) (tested s 2 (outside_sub s.classes ((10, 10) ∷ (13, 13) ∷ []) rule.newline refl refl refl (outside_choice s.classes ((10, 10) ∷ []) ((13, 13) ∷ []) false false (outside_set s.classes (one_text s.classes 10)) (outside_text s.classes))) refl refl refl) (within s rule.newline refl refl refl (either s 1015 1014 1015 refl (at_once s) (word s 30 refl refl refl) (at_once s) (word s 31 refl refl refl)))))) (between s) (many s 1016 (op.IsOne 3 1016 995) refl (λ c z. z) (tight_between s) refl (inl (tested s 3 (outside_seq s.classes ((47, 47) ∷ (47, 47) ∷ []) false (outside_sub s.classes ((47, 47) ∷ (47, 47) ∷ []) rule.COMMENT refl refl refl (outside_choice s.classes ((47, 47) ∷ []) ((47, 47) ∷ []) false false (outside_sub s.classes ((47, 47) ∷ []) rule.block_comment refl refl refl (outside_seq s.classes ((47, 47) ∷ []) false (outside_seq s.classes ((47, 47) ∷ []) false (outside_text s.classes)))) (outside_sub s.classes ((47, 47) ∷ []) rule.line_comment refl refl refl (outside_seq s.classes ((47, 47) ∷ []) false (outside_seq s.classes ((47, 47) ∷ []) false (outside_text s.classes))))))) refl refl refl)) (tries s 1017 1019 1019 1018 refl (enters s rule.COMMENT 191 192 at_COMMENT_atomic_apart refl refl refl refl refl) (between s) (many s 1020 (op.IsOne 0 1020 1018) refl (λ c z. z) (tight_between s) refl (inl (tested s 0 (outside_sub s.classes ((32, 32) ∷ (9, 9) ∷ (10, 10) ∷ (13, 13) ∷ []) rule.WHITESPACE refl refl refl (outside_choice s.classes ((32, 32) ∷ (9, 9) ∷ []) ((10, 10) ∷ (13, 13) ∷ []) false false (outside_set s.classes (one_of_two s.classes (one_text s.classes 32) (one_text s.classes 9))) (outside_sub s.classes ((10, 10) ∷ (13, 13) ∷ []) rule.newline refl refl refl (outside_choice s.classes ((10, 10) ∷ []) ((13, 13) ∷ []) false false (outside_set s.classes (one_text s.classes 10)) (outside_text s.classes))))) refl refl refl)) (within s rule.WHITESPACE refl refl refl (either s 1021 1020 1022 refl (at_once s) (one_of s 1 (one_of_two s.classes (one_text s.classes 32) (one_text s.classes 9)) refl refl refl) (tested s 2 (outside_sub s.classes ((10, 10) ∷ (13, 13) ∷ []) rule.newline refl refl refl (outside_choice s.classes ((10, 10) ∷ []) ((13, 13) ∷ []) false false (outside_set s.classes (one_text s.classes 10)) (outside_text s.classes))) refl refl refl) (within s rule.newline refl refl refl (either s 1023 1022 1023 refl (at_once s) (word s 30 refl refl refl) (at_once s) (word s 31 refl refl refl)))))) refl)))) (calls s rule.expression 103 104 at_expression_plain refl refl refl refl refl)) (gap_in_place s (seq 1024 1024 (many s 1025 (op.IsOne 0 1025 1024) refl (λ c z. z) (tight_between s) refl (inl (tested s 0 (outside_sub s.classes ((32, 32) ∷ (9, 9) ∷ (10, 10) ∷ (13, 13) ∷ []) rule.WHITESPACE refl refl refl (outside_choice s.classes ((32, 32) ∷ (9, 9) ∷ []) ((10, 10) ∷ (13, 13) ∷ []) false false (outside_set s.classes (one_of_two s.classes (one_text s.classes 32) (one_text s.classes 9))) (outside_sub s.classes ((10, 10) ∷ (13, 13) ∷ []) rule.newline refl refl refl (outside_choice s.classes ((10, 10) ∷ []) ((13, 13) ∷ []) false false (outside_set s.classes (one_text s.classes 10)) (outside_text s.classes))))) refl refl refl)) (within s rule.WHITESPACE refl refl refl (either s 1026 1025 1027 refl (at_once s) (one_of s 1 (one_of_two s.classes (one_text s.classes 32) (one_text s.classes 9)) refl refl refl) (tested s 2 (outside_sub s.classes ((10, 10) ∷ (13, 13) ∷ []) rule.newline refl refl refl (outside_choice s.classes ((10, 10) ∷ []) ((13, 13) ∷ []) false false (outside_set s.classes (one_text s.classes 10)) (outside_text s.classes))) refl refl refl) (within s rule.newline refl refl refl (either s 1028 1027 1028 refl (at_once s) (word s 30 refl refl refl) (at_once s) (word s 31 refl refl refl)))))) (between s) (many s 1029 (op.IsOne 3 1029 993) refl (λ c z. z) (tight_between s) refl (inl (tested s 3 (outside_seq s.classes ((47, 47) ∷ (47, 47) ∷ []) false (outside_sub s.classes ((47, 47) ∷ (47, 47) ∷ []) rule.COMMENT refl refl refl (outside_choice s.classes ((47, 47) ∷ []) ((47, 47) ∷ []) false false (outside_sub s.classes ((47, 47) ∷ []) rule.block_comment refl refl refl (outside_seq s.classes ((47, 47) ∷ []) false (outside_seq s.classes ((47, 47) ∷ []) false (outside_text s.classes)))) (outside_sub s.classes ((47, 47) ∷ []) rule.line_comment refl refl refl (outside_seq s.classes ((47, 47) ∷ []) false (outside_seq s.classes ((47, 47) ∷ []) false (outside_text s.classes))))))) refl refl refl)) (tries s 1030 1032 1032 1031 refl (enters s rule.COMMENT 191 192 at_COMMENT_atomic_apart refl refl refl refl refl) (between s) (many s 1033 (op.IsOne 0 1033 1031) refl (λ c z. z) (tight_between s) refl (inl (tested s 0 (outside_sub s.classes ((32, 32) ∷ (9, 9) ∷ (10, 10) ∷ (13, 13) ∷ []) rule.WHITESPACE refl refl refl (outside_choice s.classes ((32, 32) ∷ (9, 9) ∷ []) ((10, 10) ∷ (13, 13) ∷ []) false false (outside_set s.classes (one_of_two s.classes (one_text s.classes 32) (one_text s.classes 9))) (outside_sub s.classes ((10, 10) ∷ (13, 13) ∷ []) rule.newline refl refl refl (outside_choice s.classes ((10, 10) ∷ []) ((13, 13) ∷ []) false false (outside_set s.classes (one_text s.classes 10)) (outside_text s.classes))))) refl refl refl)) (within s rule.WHITESPACE refl refl refl (either s 1034 1033 1035 refl (at_once s) (one_of s 1 (one_of_two s.classes (one_text s.classes 32) (one_text s.classes 9)) refl refl refl) (tested s 2 (outside_sub s.classes ((10, 10) ∷ (13, 13) ∷ []) rule.newline refl refl refl (outside_choice s.classes ((10, 10) ∷ []) ((13, 13) ∷ []) false false (outside_set s.classes (one_text s.classes 10)) (outside_text s.classes))) refl refl refl) (within s rule.newline refl refl refl (either s 1036 1035 1036 refl (at_once s) (word s 30 refl refl refl) (at_once s) (word s 31 refl refl refl)))))) refl)))) (calls s rule.closing_paren 83 84 at_closing_paren_plain refl refl refl refl refl)
+  push__plain = seq 992 993 (seq 994 995 (seq 996 997 (word s 20 refl refl refl) (trivia_in_place s (seq 998 998 (many s 999 (op.IsOne 0 999 998) refl (λ c z. z) (tight_between s) refl (inl (tested s 0 (outside_sub s.classes ((32, 32) ∷ (9, 9) ∷ (10, 10) ∷ (13, 13) ∷ []) rule.WHITESPACE refl refl refl (outside_choice s.classes ((32, 32) ∷ (9, 9) ∷ []) ((10, 10) ∷ (13, 13) ∷ []) false false (outside_set s.classes (one_of_two s.classes (one_text s.classes 32) (one_text s.classes 9))) (outside_sub s.classes ((10, 10) ∷ (13, 13) ∷ []) rule.newline refl refl refl (outside_choice s.classes ((10, 10) ∷ []) ((13, 13) ∷ []) false false (outside_set s.classes (one_text s.classes 10)) (outside_text s.classes))))) refl refl refl)) (within s rule.WHITESPACE refl refl refl (either s 1000 999 1001 refl (at_once s) (one_of s 1 (one_of_two s.classes (one_text s.classes 32) (one_text s.classes 9)) refl refl refl) (tested s 2 (outside_sub s.classes ((10, 10) ∷ (13, 13) ∷ []) rule.newline refl refl refl (outside_choice s.classes ((10, 10) ∷ []) ((13, 13) ∷ []) false false (outside_set s.classes (one_text s.classes 10)) (outside_text s.classes))) refl refl refl) (within s rule.newline refl refl refl (either s 1002 1001 1002 refl (at_once s) (word s 30 refl refl refl) (at_once s) (word s 31 refl refl refl)))))) (between s) (many s 1003 (op.IsOne 3 1003 997) refl (λ c z. z) (tight_between s) refl (inl (tested s 3 (outside_seq s.classes ((47, 47) ∷ (47, 47) ∷ []) false (outside_sub s.classes ((47, 47) ∷ (47, 47) ∷ []) rule.COMMENT refl refl refl (outside_choice s.classes ((47, 47) ∷ []) ((47, 47) ∷ []) false false (outside_sub s.classes ((47, 47) ∷ []) rule.block_comment refl refl refl (outside_seq s.classes ((47, 47) ∷ []) false (outside_seq s.classes ((47, 47) ∷ []) false (outside_text s.classes)))) (outside_sub s.classes ((47, 47) ∷ []) rule.line_comment refl refl refl (outside_seq s.classes ((47, 47) ∷ []) false (outside_seq s.classes ((47, 47) ∷ []) false (outside_text s.classes))))))) refl refl refl)) (tries s 1004 1006 1006 1005 refl (enters s rule.COMMENT 191 192 at_COMMENT_atomic_apart refl refl refl refl refl) (between s) (many s 1007 (op.IsOne 0 1007 1005) refl (λ c z. z) (tight_between s) refl (inl (tested s 0 (outside_sub s.classes ((32, 32) ∷ (9, 9) ∷ (10, 10) ∷ (13, 13) ∷ []) rule.WHITESPACE refl refl refl (outside_choice s.classes ((32, 32) ∷ (9, 9) ∷ []) ((10, 10) ∷ (13, 13) ∷ []) false false (outside_set s.classes (one_of_two s.classes (one_text s.classes 32) (one_text s.classes 9))) (outside_sub s.classes ((10, 10) ∷ (13, 13) ∷ []) rule.newline refl refl refl (outside_choice s.classes ((10, 10) ∷ []) ((13, 13) ∷ []) false false (outside_set s.classes (one_text s.classes 10)) (outside_text s.classes))))) refl refl refl)) (within s rule.WHITESPACE refl refl refl (either s 1008 1007 1009 refl (at_once s) (one_of s 1 (one_of_two s.classes (one_text s.classes 32) (one_text s.classes 9)) refl refl refl) (tested s 2 (outside_sub s.classes ((10, 10) ∷ (13, 13) ∷ []) rule.newline refl refl refl (outside_choice s.classes ((10, 10) ∷ []) ((13, 13) ∷ []) false false (outside_set s.classes (one_text s.classes 10)) (outside_text s.classes))) refl refl refl) (within s rule.newline refl refl refl (either s 1010 1009 1010 refl (at_once s) (word s 30 refl refl refl) (at_once s) (word s 31 refl refl refl)))))) refl)))) (calls s rule.opening_paren 81 82 at_opening_paren_plain refl refl refl refl refl)) (trivia_in_place s (seq 1011 1011 (many s 1012 (op.IsOne 0 1012 1011) refl (λ c z. z) (tight_between s) refl (inl (tested s 0 (outside_sub s.classes ((32, 32) ∷ (9, 9) ∷ (10, 10) ∷ (13, 13) ∷ []) rule.WHITESPACE refl refl refl (outside_choice s.classes ((32, 32) ∷ (9, 9) ∷ []) ((10, 10) ∷ (13, 13) ∷ []) false false (outside_set s.classes (one_of_two s.classes (one_text s.classes 32) (one_text s.classes 9))) (outside_sub s.classes ((10, 10) ∷ (13, 13) ∷ []) rule.newline refl refl refl (outside_choice s.classes ((10, 10) ∷ []) ((13, 13) ∷ []) false false (outside_set s.classes (one_text s.classes 10)) (outside_text s.classes))))) refl refl refl)) (within s rule.WHITESPACE refl refl refl (either s 1013 1012 1014 refl (at_once s) (one_of s 1 (one_of_two s.classes (one_text s.classes 32) (one_text s.classes 9)) refl refl refl) (tested s 2 (outside_sub s.classes ((10, 10) ∷ (13, 13) ∷ []) rule.newline refl refl refl (outside_choice s.classes ((10, 10) ∷ []) ((13, 13) ∷ []) false false (outside_set s.classes (one_text s.classes 10)) (outside_text s.classes))) refl refl refl) (within s rule.newline refl refl refl (either s 1015 1014 1015 refl (at_once s) (word s 30 refl refl refl) (at_once s) (word s 31 refl refl refl)))))) (between s) (many s 1016 (op.IsOne 3 1016 995) refl (λ c z. z) (tight_between s) refl (inl (tested s 3 (outside_seq s.classes ((47, 47) ∷ (47, 47) ∷ []) false (outside_sub s.classes ((47, 47) ∷ (47, 47) ∷ []) rule.COMMENT refl refl refl (outside_choice s.classes ((47, 47) ∷ []) ((47, 47) ∷ []) false false (outside_sub s.classes ((47, 47) ∷ []) rule.block_comment refl refl refl (outside_seq s.classes ((47, 47) ∷ []) false (outside_seq s.classes ((47, 47) ∷ []) false (outside_text s.classes)))) (outside_sub s.classes ((47, 47) ∷ []) rule.line_comment refl refl refl (outside_seq s.classes ((47, 47) ∷ []) false (outside_seq s.classes ((47, 47) ∷ []) false (outside_text s.classes))))))) refl refl refl)) (tries s 1017 1019 1019 1018 refl (enters s rule.COMMENT 191 192 at_COMMENT_atomic_apart refl refl refl refl refl) (between s) (many s 1020 (op.IsOne 0 1020 1018) refl (λ c z. z) (tight_between s) refl (inl (tested s 0 (outside_sub s.classes ((32, 32) ∷ (9, 9) ∷ (10, 10) ∷ (13, 13) ∷ []) rule.WHITESPACE refl refl refl (outside_choice s.classes ((32, 32) ∷ (9, 9) ∷ []) ((10, 10) ∷ (13, 13) ∷ []) false false (outside_set s.classes (one_of_two s.classes (one_text s.classes 32) (one_text s.classes 9))) (outside_sub s.classes ((10, 10) ∷ (13, 13) ∷ []) rule.newline refl refl refl (outside_choice s.classes ((10, 10) ∷ []) ((13, 13) ∷ []) false false (outside_set s.classes (one_text s.classes 10)) (outside_text s.classes))))) refl refl refl)) (within s rule.WHITESPACE refl refl refl (either s 1021 1020 1022 refl (at_once s) (one_of s 1 (one_of_two s.classes (one_text s.classes 32) (one_text s.classes 9)) refl refl refl) (tested s 2 (outside_sub s.classes ((10, 10) ∷ (13, 13) ∷ []) rule.newline refl refl refl (outside_choice s.classes ((10, 10) ∷ []) ((13, 13) ∷ []) false false (outside_set s.classes (one_text s.classes 10)) (outside_text s.classes))) refl refl refl) (within s rule.newline refl refl refl (either s 1023 1022 1023 refl (at_once s) (word s 30 refl refl refl) (at_once s) (word s 31 refl refl refl)))))) refl)))) (calls s rule.expression 103 104 at_expression_plain refl refl refl refl refl)) (trivia_in_place s (seq 1024 1024 (many s 1025 (op.IsOne 0 1025 1024) refl (λ c z. z) (tight_between s) refl (inl (tested s 0 (outside_sub s.classes ((32, 32) ∷ (9, 9) ∷ (10, 10) ∷ (13, 13) ∷ []) rule.WHITESPACE refl refl refl (outside_choice s.classes ((32, 32) ∷ (9, 9) ∷ []) ((10, 10) ∷ (13, 13) ∷ []) false false (outside_set s.classes (one_of_two s.classes (one_text s.classes 32) (one_text s.classes 9))) (outside_sub s.classes ((10, 10) ∷ (13, 13) ∷ []) rule.newline refl refl refl (outside_choice s.classes ((10, 10) ∷ []) ((13, 13) ∷ []) false false (outside_set s.classes (one_text s.classes 10)) (outside_text s.classes))))) refl refl refl)) (within s rule.WHITESPACE refl refl refl (either s 1026 1025 1027 refl (at_once s) (one_of s 1 (one_of_two s.classes (one_text s.classes 32) (one_text s.classes 9)) refl refl refl) (tested s 2 (outside_sub s.classes ((10, 10) ∷ (13, 13) ∷ []) rule.newline refl refl refl (outside_choice s.classes ((10, 10) ∷ []) ((13, 13) ∷ []) false false (outside_set s.classes (one_text s.classes 10)) (outside_text s.classes))) refl refl refl) (within s rule.newline refl refl refl (either s 1028 1027 1028 refl (at_once s) (word s 30 refl refl refl) (at_once s) (word s 31 refl refl refl)))))) (between s) (many s 1029 (op.IsOne 3 1029 993) refl (λ c z. z) (tight_between s) refl (inl (tested s 3 (outside_seq s.classes ((47, 47) ∷ (47, 47) ∷ []) false (outside_sub s.classes ((47, 47) ∷ (47, 47) ∷ []) rule.COMMENT refl refl refl (outside_choice s.classes ((47, 47) ∷ []) ((47, 47) ∷ []) false false (outside_sub s.classes ((47, 47) ∷ []) rule.block_comment refl refl refl (outside_seq s.classes ((47, 47) ∷ []) false (outside_seq s.classes ((47, 47) ∷ []) false (outside_text s.classes)))) (outside_sub s.classes ((47, 47) ∷ []) rule.line_comment refl refl refl (outside_seq s.classes ((47, 47) ∷ []) false (outside_seq s.classes ((47, 47) ∷ []) false (outside_text s.classes))))))) refl refl refl)) (tries s 1030 1032 1032 1031 refl (enters s rule.COMMENT 191 192 at_COMMENT_atomic_apart refl refl refl refl refl) (between s) (many s 1033 (op.IsOne 0 1033 1031) refl (λ c z. z) (tight_between s) refl (inl (tested s 0 (outside_sub s.classes ((32, 32) ∷ (9, 9) ∷ (10, 10) ∷ (13, 13) ∷ []) rule.WHITESPACE refl refl refl (outside_choice s.classes ((32, 32) ∷ (9, 9) ∷ []) ((10, 10) ∷ (13, 13) ∷ []) false false (outside_set s.classes (one_of_two s.classes (one_text s.classes 32) (one_text s.classes 9))) (outside_sub s.classes ((10, 10) ∷ (13, 13) ∷ []) rule.newline refl refl refl (outside_choice s.classes ((10, 10) ∷ []) ((13, 13) ∷ []) false false (outside_set s.classes (one_text s.classes 10)) (outside_text s.classes))))) refl refl refl)) (within s rule.WHITESPACE refl refl refl (either s 1034 1033 1035 refl (at_once s) (one_of s 1 (one_of_two s.classes (one_text s.classes 32) (one_text s.classes 9)) refl refl refl) (tested s 2 (outside_sub s.classes ((10, 10) ∷ (13, 13) ∷ []) rule.newline refl refl refl (outside_choice s.classes ((10, 10) ∷ []) ((13, 13) ∷ []) false false (outside_set s.classes (one_text s.classes 10)) (outside_text s.classes))) refl refl refl) (within s rule.newline refl refl refl (either s 1036 1035 1036 refl (at_once s) (word s 30 refl refl refl) (at_once s) (word s 31 refl refl refl)))))) refl)))) (calls s rule.closing_paren 83 84 at_closing_paren_plain refl refl refl refl refl)
 
   push_literal__plain : Laid s (Run NonAtomicMode (body_of rule._push_literal)) 147 148 0
   unfolding whitespace comment
-  push_literal__plain = seq 1037 1038 (seq 1039 1040 (seq 1041 1042 (word s 21 refl refl refl) (gap_in_place s (seq 1043 1043 (many s 1044 (op.IsOne 0 1044 1043) refl (λ c z. z) (tight_between s) refl (inl (tested s 0 (outside_sub s.classes ((32, 32) ∷ (9, 9) ∷ (10, 10) ∷ (13, 13) ∷ []) rule.WHITESPACE refl refl refl (outside_choice s.classes ((32, 32) ∷ (9, 9) ∷ []) ((10, 10) ∷ (13, 13) ∷ []) false false (outside_set s.classes (one_of_two s.classes (one_text s.classes 32) (one_text s.classes 9))) (outside_sub s.classes ((10, 10) ∷ (13, 13) ∷ []) rule.newline refl refl refl (outside_choice s.classes ((10, 10) ∷ []) ((13, 13) ∷ []) false false (outside_set s.classes (one_text s.classes 10)) (outside_text s.classes))))) refl refl refl)) (within s rule.WHITESPACE refl refl refl (either s 1045 1044 1046 refl (at_once s) (one_of s 1 (one_of_two s.classes (one_text s.classes 32) (one_text s.classes 9)) refl refl refl) (tested s 2 (outside_sub s.classes ((10, 10) ∷ (13, 13) ∷ []) rule.newline refl refl refl (outside_choice s.classes ((10, 10) ∷ []) ((13, 13) ∷ []) false false (outside_set s.classes (one_text s.classes 10)) (outside_text s.classes))) refl refl refl) (within s rule.newline refl refl refl (either s 1047 1046 1047 refl (at_once s) (word s 30 refl refl refl) (at_once s) (word s 31 refl refl refl)))))) (between s) (many s 1048 (op.IsOne 3 1048 1042) refl (λ c z. z) (tight_between s) refl (inl (tested s 3 (outside_seq s.classes ((47, 47) ∷ (47, 47) ∷ []) false (outside_sub s.classes ((47, 47) ∷ (47, 47) ∷ []) rule.COMMENT refl refl refl (outside_choice s.classes ((47, 47) ∷ []) ((47, 47) ∷ []) false false (outside_sub s.classes ((47, 47) ∷ []) rule.block_comment refl refl refl (outside_seq s.classes ((47, 47) ∷ []) false (outside_seq s.classes ((47, 47) ∷ []) false (outside_text s.classes)))) (outside_sub s.classes ((47, 47) ∷ []) rule.line_comment refl refl refl (outside_seq s.classes ((47, 47) ∷ []) false (outside_seq s.classes ((47, 47) ∷ []) false (outside_text s.classes))))))) refl refl refl)) (tries s 1049 1051 1051 1050 refl (enters s rule.COMMENT 191 192 at_COMMENT_atomic_apart refl refl refl refl refl) (between s) (many s 1052 (op.IsOne 0 1052 1050) refl (λ c z. z) (tight_between s) refl (inl (tested s 0 (outside_sub s.classes ((32, 32) ∷ (9, 9) ∷ (10, 10) ∷ (13, 13) ∷ []) rule.WHITESPACE refl refl refl (outside_choice s.classes ((32, 32) ∷ (9, 9) ∷ []) ((10, 10) ∷ (13, 13) ∷ []) false false (outside_set s.classes (one_of_two s.classes (one_text s.classes 32) (one_text s.classes 9))) (outside_sub s.classes ((10, 10) ∷ (13, 13) ∷ []) rule.newline refl refl refl (outside_choice s.classes ((10, 10) ∷ []) ((13, 13) ∷ []) false false (outside_set s.classes (one_text s.classes 10)) (outside_text s.classes))))) refl refl refl)) (within s rule.WHITESPACE refl refl refl (either s 1053 1052 1054 refl (at_once s) (one_of s 1 (one_of_two s.classes (one_text s.classes 32) (one_text s.classes 9)) refl refl refl) (tested s 2 (outside_sub s.classes ((10, 10) ∷ (13, 13) ∷ []) rule.newline refl refl refl (outside_choice s.classes ((10, 10) ∷ []) ((13, 13) ∷ []) false false (outside_set s.classes (one_text s.classes 10)) (outside_text s.classes))) refl refl refl) (within s rule.newline refl refl refl (either s 1055 1054 1055 refl (at_once s) (word s 30 refl refl refl) (at_once s) (word s 31 refl refl refl)))))) refl)))) (calls s rule.opening_paren 81 82 at_opening_paren_plain refl refl refl refl refl)) (gap_in_place s (seq 1056 1056 (many s 1057 (op.IsOne 0 1057 1056) refl (λ c z. z) (tight_between s) refl (inl (tested s 0 (outside_sub s.classes ((32, 32) ∷ (9, 9) ∷ (10, 10) ∷ (13, 13) ∷ []) rule.WHITESPACE refl refl refl (outside_choice s.classes ((32, 32) ∷ (9, 9) ∷ []) ((10, 10) ∷ (13, 13) ∷ []) false false (outside_set s.classes (one_of_two s.classes (one_text s.classes 32) (one_text s.classes 9))) (outside_sub s.classes ((10, 10) ∷ (13, 13) ∷ []) rule.newline refl refl refl (outside_choice s.classes ((10, 10) ∷ []) ((13, 13) ∷ []) false false (outside_set s.classes (one_text s.classes 10)) (outside_text s.classes))))) refl refl refl)) (within s rule.WHITESPACE refl refl refl (either s 1058 1057 1059 refl (at_once s) (one_of s 1 (one_of_two s.classes (one_text s.classes 32) (one_text s.classes 9)) refl refl refl) (tested s 2 (outside_sub s.classes ((10, 10) ∷ (13, 13) ∷ []) rule.newline refl refl refl (outside_choice s.classes ((10, 10) ∷ []) ((13, 13) ∷ []) false false (outside_set s.classes (one_text s.classes 10)) (outside_text s.classes))) refl refl refl) (within s rule.newline refl refl refl (either s 1060 1059 1060 refl (at_once s) (word s 30 refl refl refl) (at_once s) (word s 31 refl refl refl)))))) (between s) (many s 1061 (op.IsOne 3 1061 1040) refl (λ c z. z) (tight_between s) refl (inl (tested s 3 (outside_seq s.classes ((47, 47) ∷ (47, 47) ∷ []) false (outside_sub s.classes ((47, 47) ∷ (47, 47) ∷ []) rule.COMMENT refl refl refl (outside_choice s.classes ((47, 47) ∷ []) ((47, 47) ∷ []) false false (outside_sub s.classes ((47, 47) ∷ []) rule.block_comment refl refl refl (outside_seq s.classes ((47, 47) ∷ []) false (outside_seq s.classes ((47, 47) ∷ []) false (outside_text s.classes)))) (outside_sub s.classes ((47, 47) ∷ []) rule.line_comment refl refl refl (outside_seq s.classes ((47, 47) ∷ []) false (outside_seq s.classes ((47, 47) ∷ []) false (outside_text s.classes))))))) refl refl refl)) (tries s 1062 1064 1064 1063 refl (enters s rule.COMMENT 191 192 at_COMMENT_atomic_apart refl refl refl refl refl) (between s) (many s 1065 (op.IsOne 0 1065 1063) refl (λ c z. z) (tight_between s) refl (inl (tested s 0 (outside_sub s.classes ((32, 32) ∷ (9, 9) ∷ (10, 10) ∷ (13, 13) ∷ []) rule.WHITESPACE refl refl refl (outside_choice s.classes ((32, 32) ∷ (9, 9) ∷ []) ((10, 10) ∷ (13, 13) ∷ []) false false (outside_set s.classes (one_of_two s.classes (one_text s.classes 32) (one_text s.classes 9))) (outside_sub s.classes ((10, 10) ∷ (13, 13) ∷ []) rule.newline refl refl refl (outside_choice s.classes ((10, 10) ∷ []) ((13, 13) ∷ []) false false (outside_set s.classes (one_text s.classes 10)) (outside_text s.classes))))) refl refl refl)) (within s rule.WHITESPACE refl refl refl (either s 1066 1065 1067 refl (at_once s) (one_of s 1 (one_of_two s.classes (one_text s.classes 32) (one_text s.classes 9)) refl refl refl) (tested s 2 (outside_sub s.classes ((10, 10) ∷ (13, 13) ∷ []) rule.newline refl refl refl (outside_choice s.classes ((10, 10) ∷ []) ((13, 13) ∷ []) false false (outside_set s.classes (one_text s.classes 10)) (outside_text s.classes))) refl refl refl) (within s rule.newline refl refl refl (either s 1068 1067 1068 refl (at_once s) (word s 30 refl refl refl) (at_once s) (word s 31 refl refl refl)))))) refl)))) (calls s rule.string 157 158 at_string_compound refl refl refl refl refl)) (gap_in_place s (seq 1069 1069 (many s 1070 (op.IsOne 0 1070 1069) refl (λ c z. z) (tight_between s) refl (inl (tested s 0 (outside_sub s.classes ((32, 32) ∷ (9, 9) ∷ (10, 10) ∷ (13, 13) ∷ []) rule.WHITESPACE refl refl refl (outside_choice s.classes ((32, 32) ∷ (9, 9) ∷ []) ((10, 10) ∷ (13, 13) ∷ []) false false (outside_set s.classes (one_of_two s.classes (one_text s.classes 32) (one_text s.classes 9))) (outside_sub s.classes ((10, 10) ∷ (13, 13) ∷ []) rule.newline refl refl refl (outside_choice s.classes ((10, 10) ∷ []) ((13, 13) ∷ []) false false (outside_set s.classes (one_text s.classes 10)) (outside_text s.classes))))) refl refl refl)) (within s rule.WHITESPACE refl refl refl (either s 1071 1070 1072 refl (at_once s) (one_of s 1 (one_of_two s.classes (one_text s.classes 32) (one_text s.classes 9)) refl refl refl) (tested s 2 (outside_sub s.classes ((10, 10) ∷ (13, 13) ∷ []) rule.newline refl refl refl (outside_choice s.classes ((10, 10) ∷ []) ((13, 13) ∷ []) false false (outside_set s.classes (one_text s.classes 10)) (outside_text s.classes))) refl refl refl) (within s rule.newline refl refl refl (either s 1073 1072 1073 refl (at_once s) (word s 30 refl refl refl) (at_once s) (word s 31 refl refl refl)))))) (between s) (many s 1074 (op.IsOne 3 1074 1038) refl (λ c z. z) (tight_between s) refl (inl (tested s 3 (outside_seq s.classes ((47, 47) ∷ (47, 47) ∷ []) false (outside_sub s.classes ((47, 47) ∷ (47, 47) ∷ []) rule.COMMENT refl refl refl (outside_choice s.classes ((47, 47) ∷ []) ((47, 47) ∷ []) false false (outside_sub s.classes ((47, 47) ∷ []) rule.block_comment refl refl refl (outside_seq s.classes ((47, 47) ∷ []) false (outside_seq s.classes ((47, 47) ∷ []) false (outside_text s.classes)))) (outside_sub s.classes ((47, 47) ∷ []) rule.line_comment refl refl refl (outside_seq s.classes ((47, 47) ∷ []) false (outside_seq s.classes ((47, 47) ∷ []) false (outside_text s.classes))))))) refl refl refl)) (tries s 1075 1077 1077 1076 refl (enters s rule.COMMENT 191 192 at_COMMENT_atomic_apart refl refl refl refl refl) (between s) (many s 1078 (op.IsOne 0 1078 1076) refl (λ c z. z) (tight_between s) refl (inl (tested s 0 (outside_sub s.classes ((32, 32) ∷ (9, 9) ∷ (10, 10) ∷ (13, 13) ∷ []) rule.WHITESPACE refl refl refl (outside_choice s.classes ((32, 32) ∷ (9, 9) ∷ []) ((10, 10) ∷ (13, 13) ∷ []) false false (outside_set s.classes (one_of_two s.classes (one_text s.classes 32) (one_text s.classes 9))) (outside_sub s.classes ((10, 10) ∷ (13, 13) ∷ []) rule.newline refl refl refl (outside_choice s.classes ((10, 10) ∷ []) ((13, 13) ∷ []) false false (outside_set s.classes (one_text s.classes 10)) (outside_text s.classes))))) refl refl refl)) (within s rule.WHITESPACE refl refl refl (either s 1079 1078 1080 refl (at_once s) (one_of s 1 (one_of_two s.classes (one_text s.classes 32) (one_text s.classes 9)) refl refl refl) (tested s 2 (outside_sub s.classes ((10, 10) ∷ (13, 13) ∷ []) rule.newline refl refl refl (outside_choice s.classes ((10, 10) ∷ []) ((13, 13) ∷ []) false false (outside_set s.classes (one_text s.classes 10)) (outside_text s.classes))) refl refl refl) (within s rule.newline refl refl refl (either s 1081 1080 1081 refl (at_once s) (word s 30 refl refl refl) (at_once s) (word s 31 refl refl refl)))))) refl)))) (calls s rule.closing_paren 83 84 at_closing_paren_plain refl refl refl refl refl)
+  push_literal__plain = seq 1037 1038 (seq 1039 1040 (seq 1041 1042 (word s 21 refl refl refl) (trivia_in_place s (seq 1043 1043 (many s 1044 (op.IsOne 0 1044 1043) refl (λ c z. z) (tight_between s) refl (inl (tested s 0 (outside_sub s.classes ((32, 32) ∷ (9, 9) ∷ (10, 10) ∷ (13, 13) ∷ []) rule.WHITESPACE refl refl refl (outside_choice s.classes ((32, 32) ∷ (9, 9) ∷ []) ((10, 10) ∷ (13, 13) ∷ []) false false (outside_set s.classes (one_of_two s.classes (one_text s.classes 32) (one_text s.classes 9))) (outside_sub s.classes ((10, 10) ∷ (13, 13) ∷ []) rule.newline refl refl refl (outside_choice s.classes ((10, 10) ∷ []) ((13, 13) ∷ []) false false (outside_set s.classes (one_text s.classes 10)) (outside_text s.classes))))) refl refl refl)) (within s rule.WHITESPACE refl refl refl (either s 1045 1044 1046 refl (at_once s) (one_of s 1 (one_of_two s.classes (one_text s.classes 32) (one_text s.classes 9)) refl refl refl) (tested s 2 (outside_sub s.classes ((10, 10) ∷ (13, 13) ∷ []) rule.newline refl refl refl (outside_choice s.classes ((10, 10) ∷ []) ((13, 13) ∷ []) false false (outside_set s.classes (one_text s.classes 10)) (outside_text s.classes))) refl refl refl) (within s rule.newline refl refl refl (either s 1047 1046 1047 refl (at_once s) (word s 30 refl refl refl) (at_once s) (word s 31 refl refl refl)))))) (between s) (many s 1048 (op.IsOne 3 1048 1042) refl (λ c z. z) (tight_between s) refl (inl (tested s 3 (outside_seq s.classes ((47, 47) ∷ (47, 47) ∷ []) false (outside_sub s.classes ((47, 47) ∷ (47, 47) ∷ []) rule.COMMENT refl refl refl (outside_choice s.classes ((47, 47) ∷ []) ((47, 47) ∷ []) false false (outside_sub s.classes ((47, 47) ∷ []) rule.block_comment refl refl refl (outside_seq s.classes ((47, 47) ∷ []) false (outside_seq s.classes ((47, 47) ∷ []) false (outside_text s.classes)))) (outside_sub s.classes ((47, 47) ∷ []) rule.line_comment refl refl refl (outside_seq s.classes ((47, 47) ∷ []) false (outside_seq s.classes ((47, 47) ∷ []) false (outside_text s.classes))))))) refl refl refl)) (tries s 1049 1051 1051 1050 refl (enters s rule.COMMENT 191 192 at_COMMENT_atomic_apart refl refl refl refl refl) (between s) (many s 1052 (op.IsOne 0 1052 1050) refl (λ c z. z) (tight_between s) refl (inl (tested s 0 (outside_sub s.classes ((32, 32) ∷ (9, 9) ∷ (10, 10) ∷ (13, 13) ∷ []) rule.WHITESPACE refl refl refl (outside_choice s.classes ((32, 32) ∷ (9, 9) ∷ []) ((10, 10) ∷ (13, 13) ∷ []) false false (outside_set s.classes (one_of_two s.classes (one_text s.classes 32) (one_text s.classes 9))) (outside_sub s.classes ((10, 10) ∷ (13, 13) ∷ []) rule.newline refl refl refl (outside_choice s.classes ((10, 10) ∷ []) ((13, 13) ∷ []) false false (outside_set s.classes (one_text s.classes 10)) (outside_text s.classes))))) refl refl refl)) (within s rule.WHITESPACE refl refl refl (either s 1053 1052 1054 refl (at_once s) (one_of s 1 (one_of_two s.classes (one_text s.classes 32) (one_text s.classes 9)) refl refl refl) (tested s 2 (outside_sub s.classes ((10, 10) ∷ (13, 13) ∷ []) rule.newline refl refl refl (outside_choice s.classes ((10, 10) ∷ []) ((13, 13) ∷ []) false false (outside_set s.classes (one_text s.classes 10)) (outside_text s.classes))) refl refl refl) (within s rule.newline refl refl refl (either s 1055 1054 1055 refl (at_once s) (word s 30 refl refl refl) (at_once s) (word s 31 refl refl refl)))))) refl)))) (calls s rule.opening_paren 81 82 at_opening_paren_plain refl refl refl refl refl)) (trivia_in_place s (seq 1056 1056 (many s 1057 (op.IsOne 0 1057 1056) refl (λ c z. z) (tight_between s) refl (inl (tested s 0 (outside_sub s.classes ((32, 32) ∷ (9, 9) ∷ (10, 10) ∷ (13, 13) ∷ []) rule.WHITESPACE refl refl refl (outside_choice s.classes ((32, 32) ∷ (9, 9) ∷ []) ((10, 10) ∷ (13, 13) ∷ []) false false (outside_set s.classes (one_of_two s.classes (one_text s.classes 32) (one_text s.classes 9))) (outside_sub s.classes ((10, 10) ∷ (13, 13) ∷ []) rule.newline refl refl refl (outside_choice s.classes ((10, 10) ∷ []) ((13, 13) ∷ []) false false (outside_set s.classes (one_text s.classes 10)) (outside_text s.classes))))) refl refl refl)) (within s rule.WHITESPACE refl refl refl (either s 1058 1057 1059 refl (at_once s) (one_of s 1 (one_of_two s.classes (one_text s.classes 32) (one_text s.classes 9)) refl refl refl) (tested s 2 (outside_sub s.classes ((10, 10) ∷ (13, 13) ∷ []) rule.newline refl refl refl (outside_choice s.classes ((10, 10) ∷ []) ((13, 13) ∷ []) false false (outside_set s.classes (one_text s.classes 10)) (outside_text s.classes))) refl refl refl) (within s rule.newline refl refl refl (either s 1060 1059 1060 refl (at_once s) (word s 30 refl refl refl) (at_once s) (word s 31 refl refl refl)))))) (between s) (many s 1061 (op.IsOne 3 1061 1040) refl (λ c z. z) (tight_between s) refl (inl (tested s 3 (outside_seq s.classes ((47, 47) ∷ (47, 47) ∷ []) false (outside_sub s.classes ((47, 47) ∷ (47, 47) ∷ []) rule.COMMENT refl refl refl (outside_choice s.classes ((47, 47) ∷ []) ((47, 47) ∷ []) false false (outside_sub s.classes ((47, 47) ∷ []) rule.block_comment refl refl refl (outside_seq s.classes ((47, 47) ∷ []) false (outside_seq s.classes ((47, 47) ∷ []) false (outside_text s.classes)))) (outside_sub s.classes ((47, 47) ∷ []) rule.line_comment refl refl refl (outside_seq s.classes ((47, 47) ∷ []) false (outside_seq s.classes ((47, 47) ∷ []) false (outside_text s.classes))))))) refl refl refl)) (tries s 1062 1064 1064 1063 refl (enters s rule.COMMENT 191 192 at_COMMENT_atomic_apart refl refl refl refl refl) (between s) (many s 1065 (op.IsOne 0 1065 1063) refl (λ c z. z) (tight_between s) refl (inl (tested s 0 (outside_sub s.classes ((32, 32) ∷ (9, 9) ∷ (10, 10) ∷ (13, 13) ∷ []) rule.WHITESPACE refl refl refl (outside_choice s.classes ((32, 32) ∷ (9, 9) ∷ []) ((10, 10) ∷ (13, 13) ∷ []) false false (outside_set s.classes (one_of_two s.classes (one_text s.classes 32) (one_text s.classes 9))) (outside_sub s.classes ((10, 10) ∷ (13, 13) ∷ []) rule.newline refl refl refl (outside_choice s.classes ((10, 10) ∷ []) ((13, 13) ∷ []) false false (outside_set s.classes (one_text s.classes 10)) (outside_text s.classes))))) refl refl refl)) (within s rule.WHITESPACE refl refl refl (either s 1066 1065 1067 refl (at_once s) (one_of s 1 (one_of_two s.classes (one_text s.classes 32) (one_text s.classes 9)) refl refl refl) (tested s 2 (outside_sub s.classes ((10, 10) ∷ (13, 13) ∷ []) rule.newline refl refl refl (outside_choice s.classes ((10, 10) ∷ []) ((13, 13) ∷ []) false false (outside_set s.classes (one_text s.classes 10)) (outside_text s.classes))) refl refl refl) (within s rule.newline refl refl refl (either s 1068 1067 1068 refl (at_once s) (word s 30 refl refl refl) (at_once s) (word s 31 refl refl refl)))))) refl)))) (calls s rule.string 157 158 at_string_compound refl refl refl refl refl)) (trivia_in_place s (seq 1069 1069 (many s 1070 (op.IsOne 0 1070 1069) refl (λ c z. z) (tight_between s) refl (inl (tested s 0 (outside_sub s.classes ((32, 32) ∷ (9, 9) ∷ (10, 10) ∷ (13, 13) ∷ []) rule.WHITESPACE refl refl refl (outside_choice s.classes ((32, 32) ∷ (9, 9) ∷ []) ((10, 10) ∷ (13, 13) ∷ []) false false (outside_set s.classes (one_of_two s.classes (one_text s.classes 32) (one_text s.classes 9))) (outside_sub s.classes ((10, 10) ∷ (13, 13) ∷ []) rule.newline refl refl refl (outside_choice s.classes ((10, 10) ∷ []) ((13, 13) ∷ []) false false (outside_set s.classes (one_text s.classes 10)) (outside_text s.classes))))) refl refl refl)) (within s rule.WHITESPACE refl refl refl (either s 1071 1070 1072 refl (at_once s) (one_of s 1 (one_of_two s.classes (one_text s.classes 32) (one_text s.classes 9)) refl refl refl) (tested s 2 (outside_sub s.classes ((10, 10) ∷ (13, 13) ∷ []) rule.newline refl refl refl (outside_choice s.classes ((10, 10) ∷ []) ((13, 13) ∷ []) false false (outside_set s.classes (one_text s.classes 10)) (outside_text s.classes))) refl refl refl) (within s rule.newline refl refl refl (either s 1073 1072 1073 refl (at_once s) (word s 30 refl refl refl) (at_once s) (word s 31 refl refl refl)))))) (between s) (many s 1074 (op.IsOne 3 1074 1038) refl (λ c z. z) (tight_between s) refl (inl (tested s 3 (outside_seq s.classes ((47, 47) ∷ (47, 47) ∷ []) false (outside_sub s.classes ((47, 47) ∷ (47, 47) ∷ []) rule.COMMENT refl refl refl (outside_choice s.classes ((47, 47) ∷ []) ((47, 47) ∷ []) false false (outside_sub s.classes ((47, 47) ∷ []) rule.block_comment refl refl refl (outside_seq s.classes ((47, 47) ∷ []) false (outside_seq s.classes ((47, 47) ∷ []) false (outside_text s.classes)))) (outside_sub s.classes ((47, 47) ∷ []) rule.line_comment refl refl refl (outside_seq s.classes ((47, 47) ∷ []) false (outside_seq s.classes ((47, 47) ∷ []) false (outside_text s.classes))))))) refl refl refl)) (tries s 1075 1077 1077 1076 refl (enters s rule.COMMENT 191 192 at_COMMENT_atomic_apart refl refl refl refl refl) (between s) (many s 1078 (op.IsOne 0 1078 1076) refl (λ c z. z) (tight_between s) refl (inl (tested s 0 (outside_sub s.classes ((32, 32) ∷ (9, 9) ∷ (10, 10) ∷ (13, 13) ∷ []) rule.WHITESPACE refl refl refl (outside_choice s.classes ((32, 32) ∷ (9, 9) ∷ []) ((10, 10) ∷ (13, 13) ∷ []) false false (outside_set s.classes (one_of_two s.classes (one_text s.classes 32) (one_text s.classes 9))) (outside_sub s.classes ((10, 10) ∷ (13, 13) ∷ []) rule.newline refl refl refl (outside_choice s.classes ((10, 10) ∷ []) ((13, 13) ∷ []) false false (outside_set s.classes (one_text s.classes 10)) (outside_text s.classes))))) refl refl refl)) (within s rule.WHITESPACE refl refl refl (either s 1079 1078 1080 refl (at_once s) (one_of s 1 (one_of_two s.classes (one_text s.classes 32) (one_text s.classes 9)) refl refl refl) (tested s 2 (outside_sub s.classes ((10, 10) ∷ (13, 13) ∷ []) rule.newline refl refl refl (outside_choice s.classes ((10, 10) ∷ []) ((13, 13) ∷ []) false false (outside_set s.classes (one_text s.classes 10)) (outside_text s.classes))) refl refl refl) (within s rule.newline refl refl refl (either s 1081 1080 1081 refl (at_once s) (word s 30 refl refl refl) (at_once s) (word s 31 refl refl refl)))))) refl)))) (calls s rule.closing_paren 83 84 at_closing_paren_plain refl refl refl refl refl)
 
   peek_slice_plain : Laid s (Run NonAtomicMode (body_of rule.peek_slice)) 149 150 0
   unfolding whitespace comment
-  peek_slice_plain = seq 1082 1083 (seq 1084 1085 (seq 1086 1087 (seq 1088 1089 (seq 1090 1091 (word s 22 refl refl refl) (gap_in_place s (seq 1092 1092 (many s 1093 (op.IsOne 0 1093 1092) refl (λ c z. z) (tight_between s) refl (inl (tested s 0 (outside_sub s.classes ((32, 32) ∷ (9, 9) ∷ (10, 10) ∷ (13, 13) ∷ []) rule.WHITESPACE refl refl refl (outside_choice s.classes ((32, 32) ∷ (9, 9) ∷ []) ((10, 10) ∷ (13, 13) ∷ []) false false (outside_set s.classes (one_of_two s.classes (one_text s.classes 32) (one_text s.classes 9))) (outside_sub s.classes ((10, 10) ∷ (13, 13) ∷ []) rule.newline refl refl refl (outside_choice s.classes ((10, 10) ∷ []) ((13, 13) ∷ []) false false (outside_set s.classes (one_text s.classes 10)) (outside_text s.classes))))) refl refl refl)) (within s rule.WHITESPACE refl refl refl (either s 1094 1093 1095 refl (at_once s) (one_of s 1 (one_of_two s.classes (one_text s.classes 32) (one_text s.classes 9)) refl refl refl) (tested s 2 (outside_sub s.classes ((10, 10) ∷ (13, 13) ∷ []) rule.newline refl refl refl (outside_choice s.classes ((10, 10) ∷ []) ((13, 13) ∷ []) false false (outside_set s.classes (one_text s.classes 10)) (outside_text s.classes))) refl refl refl) (within s rule.newline refl refl refl (either s 1096 1095 1096 refl (at_once s) (word s 30 refl refl refl) (at_once s) (word s 31 refl refl refl)))))) (between s) (many s 1097 (op.IsOne 3 1097 1091) refl (λ c z. z) (tight_between s) refl (inl (tested s 3 (outside_seq s.classes ((47, 47) ∷ (47, 47) ∷ []) false (outside_sub s.classes ((47, 47) ∷ (47, 47) ∷ []) rule.COMMENT refl refl refl (outside_choice s.classes ((47, 47) ∷ []) ((47, 47) ∷ []) false false (outside_sub s.classes ((47, 47) ∷ []) rule.block_comment refl refl refl (outside_seq s.classes ((47, 47) ∷ []) false (outside_seq s.classes ((47, 47) ∷ []) false (outside_text s.classes)))) (outside_sub s.classes ((47, 47) ∷ []) rule.line_comment refl refl refl (outside_seq s.classes ((47, 47) ∷ []) false (outside_seq s.classes ((47, 47) ∷ []) false (outside_text s.classes))))))) refl refl refl)) (tries s 1098 1100 1100 1099 refl (enters s rule.COMMENT 191 192 at_COMMENT_atomic_apart refl refl refl refl refl) (between s) (many s 1101 (op.IsOne 0 1101 1099) refl (λ c z. z) (tight_between s) refl (inl (tested s 0 (outside_sub s.classes ((32, 32) ∷ (9, 9) ∷ (10, 10) ∷ (13, 13) ∷ []) rule.WHITESPACE refl refl refl (outside_choice s.classes ((32, 32) ∷ (9, 9) ∷ []) ((10, 10) ∷ (13, 13) ∷ []) false false (outside_set s.classes (one_of_two s.classes (one_text s.classes 32) (one_text s.classes 9))) (outside_sub s.classes ((10, 10) ∷ (13, 13) ∷ []) rule.newline refl refl refl (outside_choice s.classes ((10, 10) ∷ []) ((13, 13) ∷ []) false false (outside_set s.classes (one_text s.classes 10)) (outside_text s.classes))))) refl refl refl)) (within s rule.WHITESPACE refl refl refl (either s 1102 1101 1103 refl (at_once s) (one_of s 1 (one_of_two s.classes (one_text s.classes 32) (one_text s.classes 9)) refl refl refl) (tested s 2 (outside_sub s.classes ((10, 10) ∷ (13, 13) ∷ []) rule.newline refl refl refl (outside_choice s.classes ((10, 10) ∷ []) ((13, 13) ∷ []) false false (outside_set s.classes (one_text s.classes 10)) (outside_text s.classes))) refl refl refl) (within s rule.newline refl refl refl (either s 1104 1103 1104 refl (at_once s) (word s 30 refl refl refl) (at_once s) (word s 31 refl refl refl)))))) refl)))) (calls s rule.opening_brack 85 86 at_opening_brack_plain refl refl refl refl refl)) (gap_in_place s (seq 1105 1105 (many s 1106 (op.IsOne 0 1106 1105) refl (λ c z. z) (tight_between s) refl (inl (tested s 0 (outside_sub s.classes ((32, 32) ∷ (9, 9) ∷ (10, 10) ∷ (13, 13) ∷ []) rule.WHITESPACE refl refl refl (outside_choice s.classes ((32, 32) ∷ (9, 9) ∷ []) ((10, 10) ∷ (13, 13) ∷ []) false false (outside_set s.classes (one_of_two s.classes (one_text s.classes 32) (one_text s.classes 9))) (outside_sub s.classes ((10, 10) ∷ (13, 13) ∷ []) rule.newline refl refl refl (outside_choice s.classes ((10, 10) ∷ []) ((13, 13) ∷ []) false false (outside_set s.classes (one_text s.classes 10)) (outside_text s.classes))))) refl refl refl)) (within s rule.WHITESPACE refl refl refl (either s 1107 1106 1108 refl (at_once s) (one_of s 1 (one_of_two s.classes (one_text s.classes 32) (one_text s.classes 9)) refl refl refl) (tested s 2 (outside_sub s.classes ((10, 10) ∷ (13, 13) ∷ []) rule.newline refl refl refl (outside_choice s.classes ((10, 10) ∷ []) ((13, 13) ∷ []) false false (outside_set s.classes (one_text s.classes 10)) (outside_text s.classes))) refl refl refl) (within s rule.newline refl refl refl (either s 1109 1108 1109 refl (at_once s) (word s 30 refl refl refl) (at_once s) (word s 31 refl refl refl)))))) (between s) (many s 1110 (op.IsOne 3 1110 1089) refl (λ c z. z) (tight_between s) refl (inl (tested s 3 (outside_seq s.classes ((47, 47) ∷ (47, 47) ∷ []) false (outside_sub s.classes ((47, 47) ∷ (47, 47) ∷ []) rule.COMMENT refl refl refl (outside_choice s.classes ((47, 47) ∷ []) ((47, 47) ∷ []) false false (outside_sub s.classes ((47, 47) ∷ []) rule.block_comment refl refl refl (outside_seq s.classes ((47, 47) ∷ []) false (outside_seq s.classes ((47, 47) ∷ []) false (outside_text s.classes)))) (outside_sub s.classes ((47, 47) ∷ []) rule.line_comment refl refl refl (outside_seq s.classes ((47, 47) ∷ []) false (outside_seq s.classes ((47, 47) ∷ []) false (outside_text s.classes))))))) refl refl refl)) (tries s 1111 1113 1113 1112 refl (enters s rule.COMMENT 191 192 at_COMMENT_atomic_apart refl refl refl refl refl) (between s) (many s 1114 (op.IsOne 0 1114 1112) refl (λ c z. z) (tight_between s) refl (inl (tested s 0 (outside_sub s.classes ((32, 32) ∷ (9, 9) ∷ (10, 10) ∷ (13, 13) ∷ []) rule.WHITESPACE refl refl refl (outside_choice s.classes ((32, 32) ∷ (9, 9) ∷ []) ((10, 10) ∷ (13, 13) ∷ []) false false (outside_set s.classes (one_of_two s.classes (one_text s.classes 32) (one_text s.classes 9))) (outside_sub s.classes ((10, 10) ∷ (13, 13) ∷ []) rule.newline refl refl refl (outside_choice s.classes ((10, 10) ∷ []) ((13, 13) ∷ []) false false (outside_set s.classes (one_text s.classes 10)) (outside_text s.classes))))) refl refl refl)) (within s rule.WHITESPACE refl refl refl (either s 1115 1114 1116 refl (at_once s) (one_of s 1 (one_of_two s.classes (one_text s.classes 32) (one_text s.classes 9)) refl refl refl) (tested s 2 (outside_sub s.classes ((10, 10) ∷ (13, 13) ∷ []) rule.newline refl refl refl (outside_choice s.classes ((10, 10) ∷ []) ((13, 13) ∷ []) false false (outside_set s.classes (one_text s.classes 10)) (outside_text s.classes))) refl refl refl) (within s rule.newline refl refl refl (either s 1117 1116 1117 refl (at_once s) (word s 30 refl refl refl) (at_once s) (word s 31 refl refl refl)))))) refl)))) (maybe s 1118 refl (noted s 43 1119 refl (outside_call s.classes ((48, 57) ∷ (45, 45) ∷ []) false rule.integer refl refl refl (outside_choice s.classes ((48, 57) ∷ []) ((45, 45) ∷ []) false false (outside_sub s.classes ((48, 57) ∷ []) rule.number refl refl refl (outside_some s.classes ((48, 57) ∷ []) false (outside_set s.classes (one_range s.classes 48 57)))) (outside_seq s.classes ((45, 45) ∷ []) false (outside_seq s.classes ((45, 45) ∷ []) false (outside_seq s.classes ((45, 45) ∷ []) false (outside_set s.classes (one_text s.classes 45))))))) refl refl refl refl) (calls s rule.integer 141 142 at_integer_atomic refl refl refl refl refl))) (gap_in_place s (seq 1120 1120 (many s 1121 (op.IsOne 0 1121 1120) refl (λ c z. z) (tight_between s) refl (inl (tested s 0 (outside_sub s.classes ((32, 32) ∷ (9, 9) ∷ (10, 10) ∷ (13, 13) ∷ []) rule.WHITESPACE refl refl refl (outside_choice s.classes ((32, 32) ∷ (9, 9) ∷ []) ((10, 10) ∷ (13, 13) ∷ []) false false (outside_set s.classes (one_of_two s.classes (one_text s.classes 32) (one_text s.classes 9))) (outside_sub s.classes ((10, 10) ∷ (13, 13) ∷ []) rule.newline refl refl refl (outside_choice s.classes ((10, 10) ∷ []) ((13, 13) ∷ []) false false (outside_set s.classes (one_text s.classes 10)) (outside_text s.classes))))) refl refl refl)) (within s rule.WHITESPACE refl refl refl (either s 1122 1121 1123 refl (at_once s) (one_of s 1 (one_of_two s.classes (one_text s.classes 32) (one_text s.classes 9)) refl refl refl) (tested s 2 (outside_sub s.classes ((10, 10) ∷ (13, 13) ∷ []) rule.newline refl refl refl (outside_choice s.classes ((10, 10) ∷ []) ((13, 13) ∷ []) false false (outside_set s.classes (one_text s.classes 10)) (outside_text s.classes))) refl refl refl) (within s rule.newline refl refl refl (either s 1124 1123 1124 refl (at_once s) (word s 30 refl refl refl) (at_once s) (word s 31 refl refl refl)))))) (between s) (many s 1125 (op.IsOne 3 1125 1087) refl (λ c z. z) (tight_between s) refl (inl (tested s 3 (outside_seq s.classes ((47, 47) ∷ (47, 47) ∷ []) false (outside_sub s.classes ((47, 47) ∷ (47, 47) ∷ []) rule.COMMENT refl refl refl (outside_choice s.classes ((47, 47) ∷ []) ((47, 47) ∷ []) false false (outside_sub s.classes ((47, 47) ∷ []) rule.block_comment refl refl refl (outside_seq s.classes ((47, 47) ∷ []) false (outside_seq s.classes ((47, 47) ∷ []) false (outside_text s.classes)))) (outside_sub s.classes ((47, 47) ∷ []) rule.line_comment refl refl refl (outside_seq s.classes ((47, 47) ∷ []) false (outside_seq s.classes ((47, 47) ∷ []) false (outside_text s.classes))))))) refl refl refl)) (tries s 1126 1128 1128 1127 refl (enters s rule.COMMENT 191 192 at_COMMENT_atomic_apart refl refl refl refl refl) (between s) (many s 1129 (op.IsOne 0 1129 1127) refl (λ c z. z) (tight_between s) refl (inl (tested s 0 (outside_sub s.classes ((32, 32) ∷ (9, 9) ∷ (10, 10) ∷ (13, 13) ∷ []) rule.WHITESPACE refl refl refl (outside_choice s.classes ((32, 32) ∷ (9, 9) ∷ []) ((10, 10) ∷ (13, 13) ∷ []) false false (outside_set s.classes (one_of_two s.classes (one_text s.classes 32) (one_text s.classes 9))) (outside_sub s.classes ((10, 10) ∷ (13, 13) ∷ []) rule.newline refl refl refl (outside_choice s.classes ((10, 10) ∷ []) ((13, 13) ∷ []) false false (outside_set s.classes (one_text s.classes 10)) (outside_text s.classes))))) refl refl refl)) (within s rule.WHITESPACE refl refl refl (either s 1130 1129 1131 refl (at_once s) (one_of s 1 (one_of_two s.classes (one_text s.classes 32) (one_text s.classes 9)) refl refl refl) (tested s 2 (outside_sub s.classes ((10, 10) ∷ (13, 13) ∷ []) rule.newline refl refl refl (outside_choice s.classes ((10, 10) ∷ []) ((13, 13) ∷ []) false false (outside_set s.classes (one_text s.classes 10)) (outside_text s.classes))) refl refl refl) (within s rule.newline refl refl refl (either s 1132 1131 1132 refl (at_once s) (word s 30 refl refl refl) (at_once s) (word s 31 refl refl refl)))))) refl)))) (calls s rule.range_operator 181 182 at_range_operator_plain refl refl refl refl refl)) (gap_in_place s (seq 1133 1133 (many s 1134 (op.IsOne 0 1134 1133) refl (λ c z. z) (tight_between s) refl (inl (tested s 0 (outside_sub s.classes ((32, 32) ∷ (9, 9) ∷ (10, 10) ∷ (13, 13) ∷ []) rule.WHITESPACE refl refl refl (outside_choice s.classes ((32, 32) ∷ (9, 9) ∷ []) ((10, 10) ∷ (13, 13) ∷ []) false false (outside_set s.classes (one_of_two s.classes (one_text s.classes 32) (one_text s.classes 9))) (outside_sub s.classes ((10, 10) ∷ (13, 13) ∷ []) rule.newline refl refl refl (outside_choice s.classes ((10, 10) ∷ []) ((13, 13) ∷ []) false false (outside_set s.classes (one_text s.classes 10)) (outside_text s.classes))))) refl refl refl)) (within s rule.WHITESPACE refl refl refl (either s 1135 1134 1136 refl (at_once s) (one_of s 1 (one_of_two s.classes (one_text s.classes 32) (one_text s.classes 9)) refl refl refl) (tested s 2 (outside_sub s.classes ((10, 10) ∷ (13, 13) ∷ []) rule.newline refl refl refl (outside_choice s.classes ((10, 10) ∷ []) ((13, 13) ∷ []) false false (outside_set s.classes (one_text s.classes 10)) (outside_text s.classes))) refl refl refl) (within s rule.newline refl refl refl (either s 1137 1136 1137 refl (at_once s) (word s 30 refl refl refl) (at_once s) (word s 31 refl refl refl)))))) (between s) (many s 1138 (op.IsOne 3 1138 1085) refl (λ c z. z) (tight_between s) refl (inl (tested s 3 (outside_seq s.classes ((47, 47) ∷ (47, 47) ∷ []) false (outside_sub s.classes ((47, 47) ∷ (47, 47) ∷ []) rule.COMMENT refl refl refl (outside_choice s.classes ((47, 47) ∷ []) ((47, 47) ∷ []) false false (outside_sub s.classes ((47, 47) ∷ []) rule.block_comment refl refl refl (outside_seq s.classes ((47, 47) ∷ []) false (outside_seq s.classes ((47, 47) ∷ []) false (outside_text s.classes)))) (outside_sub s.classes ((47, 47) ∷ []) rule.line_comment refl refl refl (outside_seq s.classes ((47, 47) ∷ []) false (outside_seq s.classes ((47, 47) ∷ []) false (outside_text s.classes))))))) refl refl refl)) (tries s 1139 1141 1141 1140 refl (enters s rule.COMMENT 191 192 at_COMMENT_atomic_apart refl refl refl refl refl) (between s) (many s 1142 (op.IsOne 0 1142 1140) refl (λ c z. z) (tight_between s) refl (inl (tested s 0 (outside_sub s.classes ((32, 32) ∷ (9, 9) ∷ (10, 10) ∷ (13, 13) ∷ []) rule.WHITESPACE refl refl refl (outside_choice s.classes ((32, 32) ∷ (9, 9) ∷ []) ((10, 10) ∷ (13, 13) ∷ []) false false (outside_set s.classes (one_of_two s.classes (one_text s.classes 32) (one_text s.classes 9))) (outside_sub s.classes ((10, 10) ∷ (13, 13) ∷ []) rule.newline refl refl refl (outside_choice s.classes ((10, 10) ∷ []) ((13, 13) ∷ []) false false (outside_set s.classes (one_text s.classes 10)) (outside_text s.classes))))) refl refl refl)) (within s rule.WHITESPACE refl refl refl (either s 1143 1142 1144 refl (at_once s) (one_of s 1 (one_of_two s.classes (one_text s.classes 32) (one_text s.classes 9)) refl refl refl) (tested s 2 (outside_sub s.classes ((10, 10) ∷ (13, 13) ∷ []) rule.newline refl refl refl (outside_choice s.classes ((10, 10) ∷ []) ((13, 13) ∷ []) false false (outside_set s.classes (one_text s.classes 10)) (outside_text s.classes))) refl refl refl) (within s rule.newline refl refl refl (either s 1145 1144 1145 refl (at_once s) (word s 30 refl refl refl) (at_once s) (word s 31 refl refl refl)))))) refl)))) (maybe s 1146 refl (noted s 43 1147 refl (outside_call s.classes ((48, 57) ∷ (45, 45) ∷ []) false rule.integer refl refl refl (outside_choice s.classes ((48, 57) ∷ []) ((45, 45) ∷ []) false false (outside_sub s.classes ((48, 57) ∷ []) rule.number refl refl refl (outside_some s.classes ((48, 57) ∷ []) false (outside_set s.classes (one_range s.classes 48 57)))) (outside_seq s.classes ((45, 45) ∷ []) false (outside_seq s.classes ((45, 45) ∷ []) false (outside_seq s.classes ((45, 45) ∷ []) false (outside_set s.classes (one_text s.classes 45))))))) refl refl refl refl) (calls s rule.integer 141 142 at_integer_atomic refl refl refl refl refl))) (gap_in_place s (seq 1148 1148 (many s 1149 (op.IsOne 0 1149 1148) refl (λ c z. z) (tight_between s) refl (inl (tested s 0 (outside_sub s.classes ((32, 32) ∷ (9, 9) ∷ (10, 10) ∷ (13, 13) ∷ []) rule.WHITESPACE refl refl refl (outside_choice s.classes ((32, 32) ∷ (9, 9) ∷ []) ((10, 10) ∷ (13, 13) ∷ []) false false (outside_set s.classes (one_of_two s.classes (one_text s.classes 32) (one_text s.classes 9))) (outside_sub s.classes ((10, 10) ∷ (13, 13) ∷ []) rule.newline refl refl refl (outside_choice s.classes ((10, 10) ∷ []) ((13, 13) ∷ []) false false (outside_set s.classes (one_text s.classes 10)) (outside_text s.classes))))) refl refl refl)) (within s rule.WHITESPACE refl refl refl (either s 1150 1149 1151 refl (at_once s) (one_of s 1 (one_of_two s.classes (one_text s.classes 32) (one_text s.classes 9)) refl refl refl) (tested s 2 (outside_sub s.classes ((10, 10) ∷ (13, 13) ∷ []) rule.newline refl refl refl (outside_choice s.classes ((10, 10) ∷ []) ((13, 13) ∷ []) false false (outside_set s.classes (one_text s.classes 10)) (outside_text s.classes))) refl refl refl) (within s rule.newline refl refl refl (either s 1152 1151 1152 refl (at_once s) (word s 30 refl refl refl) (at_once s) (word s 31 refl refl refl)))))) (between s) (many s 1153 (op.IsOne 3 1153 1083) refl (λ c z. z) (tight_between s) refl (inl (tested s 3 (outside_seq s.classes ((47, 47) ∷ (47, 47) ∷ []) false (outside_sub s.classes ((47, 47) ∷ (47, 47) ∷ []) rule.COMMENT refl refl refl (outside_choice s.classes ((47, 47) ∷ []) ((47, 47) ∷ []) false false (outside_sub s.classes ((47, 47) ∷ []) rule.block_comment refl refl refl (outside_seq s.classes ((47, 47) ∷ []) false (outside_seq s.classes ((47, 47) ∷ []) false (outside_text s.classes)))) (outside_sub s.classes ((47, 47) ∷ []) rule.line_comment refl refl refl (outside_seq s.classes ((47, 47) ∷ []) false (outside_seq s.classes ((47, 47) ∷ []) false (outside_text s.classes))))))) refl refl refl)) (tries s 1154 1156 1156 1155 refl (enters s rule.COMMENT 191 192 at_COMMENT_atomic_apart refl refl refl refl refl) (between s) (many s 1157 (op.IsOne 0 1157 1155) refl (λ c z. z) (tight_between s) refl (inl (tested s 0 (outside_sub s.classes ((32, 32) ∷ (9, 9) ∷ (10, 10) ∷ (13, 13) ∷ []) rule.WHITESPACE refl refl refl (outside_choice s.classes ((32, 32) ∷ (9, 9) ∷ []) ((10, 10) ∷ (13, 13) ∷ []) false false (outside_set s.classes (one_of_two s.classes (one_text s.classes 32) (one_text s.classes 9))) (outside_sub s.classes ((10, 10) ∷ (13, 13) ∷ []) rule.newline refl refl refl (outside_choice s.classes ((10, 10) ∷ []) ((13, 13) ∷ []) false false (outside_set s.classes (one_text s.classes 10)) (outside_text s.classes))))) refl refl refl)) (within s rule.WHITESPACE refl refl refl (either s 1158 1157 1159 refl (at_once s) (one_of s 1 (one_of_two s.classes (one_text s.classes 32) (one_text s.classes 9)) refl refl refl) (tested s 2 (outside_sub s.classes ((10, 10) ∷ (13, 13) ∷ []) rule.newline refl refl refl (outside_choice s.classes ((10, 10) ∷ []) ((13, 13) ∷ []) false false (outside_set s.classes (one_text s.classes 10)) (outside_text s.classes))) refl refl refl) (within s rule.newline refl refl refl (either s 1160 1159 1160 refl (at_once s) (word s 30 refl refl refl) (at_once s) (word s 31 refl refl refl)))))) refl)))) (calls s rule.closing_brack 87 88 at_closing_brack_plain refl refl refl refl refl)
+  peek_slice_plain = seq 1082 1083 (seq 1084 1085 (seq 1086 1087 (seq 1088 1089 (seq 1090 1091 (word s 22 refl refl refl) (trivia_in_place s (seq 1092 1092 (many s 1093 (op.IsOne 0 1093 1092) refl (λ c z. z) (tight_between s) refl (inl (tested s 0 (outside_sub s.classes ((32, 32) ∷ (9, 9) ∷ (10, 10) ∷ (13, 13) ∷ []) rule.WHITESPACE refl refl refl (outside_choice s.classes ((32, 32) ∷ (9, 9) ∷ []) ((10, 10) ∷ (13, 13) ∷ []) false false (outside_set s.classes (one_of_two s.classes (one_text s.classes 32) (one_text s.classes 9))) (outside_sub s.classes ((10, 10) ∷ (13, 13) ∷ []) rule.newline refl refl refl (outside_choice s.classes ((10, 10) ∷ []) ((13, 13) ∷ []) false false (outside_set s.classes (one_text s.classes 10)) (outside_text s.classes))))) refl refl refl)) (within s rule.WHITESPACE refl refl refl (either s 1094 1093 1095 refl (at_once s) (one_of s 1 (one_of_two s.classes (one_text s.classes 32) (one_text s.classes 9)) refl refl refl) (tested s 2 (outside_sub s.classes ((10, 10) ∷ (13, 13) ∷ []) rule.newline refl refl refl (outside_choice s.classes ((10, 10) ∷ []) ((13, 13) ∷ []) false false (outside_set s.classes (one_text s.classes 10)) (outside_text s.classes))) refl refl refl) (within s rule.newline refl refl refl (either s 1096 1095 1096 refl (at_once s) (word s 30 refl refl refl) (at_once s) (word s 31 refl refl refl)))))) (between s) (many s 1097 (op.IsOne 3 1097 1091) refl (λ c z. z) (tight_between s) refl (inl (tested s 3 (outside_seq s.classes ((47, 47) ∷ (47, 47) ∷ []) false (outside_sub s.classes ((47, 47) ∷ (47, 47) ∷ []) rule.COMMENT refl refl refl (outside_choice s.classes ((47, 47) ∷ []) ((47, 47) ∷ []) false false (outside_sub s.classes ((47, 47) ∷ []) rule.block_comment refl refl refl (outside_seq s.classes ((47, 47) ∷ []) false (outside_seq s.classes ((47, 47) ∷ []) false (outside_text s.classes)))) (outside_sub s.classes ((47, 47) ∷ []) rule.line_comment refl refl refl (outside_seq s.classes ((47, 47) ∷ []) false (outside_seq s.classes ((47, 47) ∷ []) false (outside_text s.classes))))))) refl refl refl)) (tries s 1098 1100 1100 1099 refl (enters s rule.COMMENT 191 192 at_COMMENT_atomic_apart refl refl refl refl refl) (between s) (many s 1101 (op.IsOne 0 1101 1099) refl (λ c z. z) (tight_between s) refl (inl (tested s 0 (outside_sub s.classes ((32, 32) ∷ (9, 9) ∷ (10, 10) ∷ (13, 13) ∷ []) rule.WHITESPACE refl refl refl (outside_choice s.classes ((32, 32) ∷ (9, 9) ∷ []) ((10, 10) ∷ (13, 13) ∷ []) false false (outside_set s.classes (one_of_two s.classes (one_text s.classes 32) (one_text s.classes 9))) (outside_sub s.classes ((10, 10) ∷ (13, 13) ∷ []) rule.newline refl refl refl (outside_choice s.classes ((10, 10) ∷ []) ((13, 13) ∷ []) false false (outside_set s.classes (one_text s.classes 10)) (outside_text s.classes))))) refl refl refl)) (within s rule.WHITESPACE refl refl refl (either s 1102 1101 1103 refl (at_once s) (one_of s 1 (one_of_two s.classes (one_text s.classes 32) (one_text s.classes 9)) refl refl refl) (tested s 2 (outside_sub s.classes ((10, 10) ∷ (13, 13) ∷ []) rule.newline refl refl refl (outside_choice s.classes ((10, 10) ∷ []) ((13, 13) ∷ []) false false (outside_set s.classes (one_text s.classes 10)) (outside_text s.classes))) refl refl refl) (within s rule.newline refl refl refl (either s 1104 1103 1104 refl (at_once s) (word s 30 refl refl refl) (at_once s) (word s 31 refl refl refl)))))) refl)))) (calls s rule.opening_brack 85 86 at_opening_brack_plain refl refl refl refl refl)) (trivia_in_place s (seq 1105 1105 (many s 1106 (op.IsOne 0 1106 1105) refl (λ c z. z) (tight_between s) refl (inl (tested s 0 (outside_sub s.classes ((32, 32) ∷ (9, 9) ∷ (10, 10) ∷ (13, 13) ∷ []) rule.WHITESPACE refl refl refl (outside_choice s.classes ((32, 32) ∷ (9, 9) ∷ []) ((10, 10) ∷ (13, 13) ∷ []) false false (outside_set s.classes (one_of_two s.classes (one_text s.classes 32) (one_text s.classes 9))) (outside_sub s.classes ((10, 10) ∷ (13, 13) ∷ []) rule.newline refl refl refl (outside_choice s.classes ((10, 10) ∷ []) ((13, 13) ∷ []) false false (outside_set s.classes (one_text s.classes 10)) (outside_text s.classes))))) refl refl refl)) (within s rule.WHITESPACE refl refl refl (either s 1107 1106 1108 refl (at_once s) (one_of s 1 (one_of_two s.classes (one_text s.classes 32) (one_text s.classes 9)) refl refl refl) (tested s 2 (outside_sub s.classes ((10, 10) ∷ (13, 13) ∷ []) rule.newline refl refl refl (outside_choice s.classes ((10, 10) ∷ []) ((13, 13) ∷ []) false false (outside_set s.classes (one_text s.classes 10)) (outside_text s.classes))) refl refl refl) (within s rule.newline refl refl refl (either s 1109 1108 1109 refl (at_once s) (word s 30 refl refl refl) (at_once s) (word s 31 refl refl refl)))))) (between s) (many s 1110 (op.IsOne 3 1110 1089) refl (λ c z. z) (tight_between s) refl (inl (tested s 3 (outside_seq s.classes ((47, 47) ∷ (47, 47) ∷ []) false (outside_sub s.classes ((47, 47) ∷ (47, 47) ∷ []) rule.COMMENT refl refl refl (outside_choice s.classes ((47, 47) ∷ []) ((47, 47) ∷ []) false false (outside_sub s.classes ((47, 47) ∷ []) rule.block_comment refl refl refl (outside_seq s.classes ((47, 47) ∷ []) false (outside_seq s.classes ((47, 47) ∷ []) false (outside_text s.classes)))) (outside_sub s.classes ((47, 47) ∷ []) rule.line_comment refl refl refl (outside_seq s.classes ((47, 47) ∷ []) false (outside_seq s.classes ((47, 47) ∷ []) false (outside_text s.classes))))))) refl refl refl)) (tries s 1111 1113 1113 1112 refl (enters s rule.COMMENT 191 192 at_COMMENT_atomic_apart refl refl refl refl refl) (between s) (many s 1114 (op.IsOne 0 1114 1112) refl (λ c z. z) (tight_between s) refl (inl (tested s 0 (outside_sub s.classes ((32, 32) ∷ (9, 9) ∷ (10, 10) ∷ (13, 13) ∷ []) rule.WHITESPACE refl refl refl (outside_choice s.classes ((32, 32) ∷ (9, 9) ∷ []) ((10, 10) ∷ (13, 13) ∷ []) false false (outside_set s.classes (one_of_two s.classes (one_text s.classes 32) (one_text s.classes 9))) (outside_sub s.classes ((10, 10) ∷ (13, 13) ∷ []) rule.newline refl refl refl (outside_choice s.classes ((10, 10) ∷ []) ((13, 13) ∷ []) false false (outside_set s.classes (one_text s.classes 10)) (outside_text s.classes))))) refl refl refl)) (within s rule.WHITESPACE refl refl refl (either s 1115 1114 1116 refl (at_once s) (one_of s 1 (one_of_two s.classes (one_text s.classes 32) (one_text s.classes 9)) refl refl refl) (tested s 2 (outside_sub s.classes ((10, 10) ∷ (13, 13) ∷ []) rule.newline refl refl refl (outside_choice s.classes ((10, 10) ∷ []) ((13, 13) ∷ []) false false (outside_set s.classes (one_text s.classes 10)) (outside_text s.classes))) refl refl refl) (within s rule.newline refl refl refl (either s 1117 1116 1117 refl (at_once s) (word s 30 refl refl refl) (at_once s) (word s 31 refl refl refl)))))) refl)))) (maybe s 1118 refl (noted s 43 1119 refl (outside_call s.classes ((48, 57) ∷ (45, 45) ∷ []) false rule.integer refl refl refl (outside_choice s.classes ((48, 57) ∷ []) ((45, 45) ∷ []) false false (outside_sub s.classes ((48, 57) ∷ []) rule.number refl refl refl (outside_some s.classes ((48, 57) ∷ []) false (outside_set s.classes (one_range s.classes 48 57)))) (outside_seq s.classes ((45, 45) ∷ []) false (outside_seq s.classes ((45, 45) ∷ []) false (outside_seq s.classes ((45, 45) ∷ []) false (outside_set s.classes (one_text s.classes 45))))))) refl refl refl refl) (calls s rule.integer 141 142 at_integer_atomic refl refl refl refl refl))) (trivia_in_place s (seq 1120 1120 (many s 1121 (op.IsOne 0 1121 1120) refl (λ c z. z) (tight_between s) refl (inl (tested s 0 (outside_sub s.classes ((32, 32) ∷ (9, 9) ∷ (10, 10) ∷ (13, 13) ∷ []) rule.WHITESPACE refl refl refl (outside_choice s.classes ((32, 32) ∷ (9, 9) ∷ []) ((10, 10) ∷ (13, 13) ∷ []) false false (outside_set s.classes (one_of_two s.classes (one_text s.classes 32) (one_text s.classes 9))) (outside_sub s.classes ((10, 10) ∷ (13, 13) ∷ []) rule.newline refl refl refl (outside_choice s.classes ((10, 10) ∷ []) ((13, 13) ∷ []) false false (outside_set s.classes (one_text s.classes 10)) (outside_text s.classes))))) refl refl refl)) (within s rule.WHITESPACE refl refl refl (either s 1122 1121 1123 refl (at_once s) (one_of s 1 (one_of_two s.classes (one_text s.classes 32) (one_text s.classes 9)) refl refl refl) (tested s 2 (outside_sub s.classes ((10, 10) ∷ (13, 13) ∷ []) rule.newline refl refl refl (outside_choice s.classes ((10, 10) ∷ []) ((13, 13) ∷ []) false false (outside_set s.classes (one_text s.classes 10)) (outside_text s.classes))) refl refl refl) (within s rule.newline refl refl refl (either s 1124 1123 1124 refl (at_once s) (word s 30 refl refl refl) (at_once s) (word s 31 refl refl refl)))))) (between s) (many s 1125 (op.IsOne 3 1125 1087) refl (λ c z. z) (tight_between s) refl (inl (tested s 3 (outside_seq s.classes ((47, 47) ∷ (47, 47) ∷ []) false (outside_sub s.classes ((47, 47) ∷ (47, 47) ∷ []) rule.COMMENT refl refl refl (outside_choice s.classes ((47, 47) ∷ []) ((47, 47) ∷ []) false false (outside_sub s.classes ((47, 47) ∷ []) rule.block_comment refl refl refl (outside_seq s.classes ((47, 47) ∷ []) false (outside_seq s.classes ((47, 47) ∷ []) false (outside_text s.classes)))) (outside_sub s.classes ((47, 47) ∷ []) rule.line_comment refl refl refl (outside_seq s.classes ((47, 47) ∷ []) false (outside_seq s.classes ((47, 47) ∷ []) false (outside_text s.classes))))))) refl refl refl)) (tries s 1126 1128 1128 1127 refl (enters s rule.COMMENT 191 192 at_COMMENT_atomic_apart refl refl refl refl refl) (between s) (many s 1129 (op.IsOne 0 1129 1127) refl (λ c z. z) (tight_between s) refl (inl (tested s 0 (outside_sub s.classes ((32, 32) ∷ (9, 9) ∷ (10, 10) ∷ (13, 13) ∷ []) rule.WHITESPACE refl refl refl (outside_choice s.classes ((32, 32) ∷ (9, 9) ∷ []) ((10, 10) ∷ (13, 13) ∷ []) false false (outside_set s.classes (one_of_two s.classes (one_text s.classes 32) (one_text s.classes 9))) (outside_sub s.classes ((10, 10) ∷ (13, 13) ∷ []) rule.newline refl refl refl (outside_choice s.classes ((10, 10) ∷ []) ((13, 13) ∷ []) false false (outside_set s.classes (one_text s.classes 10)) (outside_text s.classes))))) refl refl refl)) (within s rule.WHITESPACE refl refl refl (either s 1130 1129 1131 refl (at_once s) (one_of s 1 (one_of_two s.classes (one_text s.classes 32) (one_text s.classes 9)) refl refl refl) (tested s 2 (outside_sub s.classes ((10, 10) ∷ (13, 13) ∷ []) rule.newline refl refl refl (outside_choice s.classes ((10, 10) ∷ []) ((13, 13) ∷ []) false false (outside_set s.classes (one_text s.classes 10)) (outside_text s.classes))) refl refl refl) (within s rule.newline refl refl refl (either s 1132 1131 1132 refl (at_once s) (word s 30 refl refl refl) (at_once s) (word s 31 refl refl refl)))))) refl)))) (calls s rule.range_operator 181 182 at_range_operator_plain refl refl refl refl refl)) (trivia_in_place s (seq 1133 1133 (many s 1134 (op.IsOne 0 1134 1133) refl (λ c z. z) (tight_between s) refl (inl (tested s 0 (outside_sub s.classes ((32, 32) ∷ (9, 9) ∷ (10, 10) ∷ (13, 13) ∷ []) rule.WHITESPACE refl refl refl (outside_choice s.classes ((32, 32) ∷ (9, 9) ∷ []) ((10, 10) ∷ (13, 13) ∷ []) false false (outside_set s.classes (one_of_two s.classes (one_text s.classes 32) (one_text s.classes 9))) (outside_sub s.classes ((10, 10) ∷ (13, 13) ∷ []) rule.newline refl refl refl (outside_choice s.classes ((10, 10) ∷ []) ((13, 13) ∷ []) false false (outside_set s.classes (one_text s.classes 10)) (outside_text s.classes))))) refl refl refl)) (within s rule.WHITESPACE refl refl refl (either s 1135 1134 1136 refl (at_once s) (one_of s 1 (one_of_two s.classes (one_text s.classes 32) (one_text s.classes 9)) refl refl refl) (tested s 2 (outside_sub s.classes ((10, 10) ∷ (13, 13) ∷ []) rule.newline refl refl refl (outside_choice s.classes ((10, 10) ∷ []) ((13, 13) ∷ []) false false (outside_set s.classes (one_text s.classes 10)) (outside_text s.classes))) refl refl refl) (within s rule.newline refl refl refl (either s 1137 1136 1137 refl (at_once s) (word s 30 refl refl refl) (at_once s) (word s 31 refl refl refl)))))) (between s) (many s 1138 (op.IsOne 3 1138 1085) refl (λ c z. z) (tight_between s) refl (inl (tested s 3 (outside_seq s.classes ((47, 47) ∷ (47, 47) ∷ []) false (outside_sub s.classes ((47, 47) ∷ (47, 47) ∷ []) rule.COMMENT refl refl refl (outside_choice s.classes ((47, 47) ∷ []) ((47, 47) ∷ []) false false (outside_sub s.classes ((47, 47) ∷ []) rule.block_comment refl refl refl (outside_seq s.classes ((47, 47) ∷ []) false (outside_seq s.classes ((47, 47) ∷ []) false (outside_text s.classes)))) (outside_sub s.classes ((47, 47) ∷ []) rule.line_comment refl refl refl (outside_seq s.classes ((47, 47) ∷ []) false (outside_seq s.classes ((47, 47) ∷ []) false (outside_text s.classes))))))) refl refl refl)) (tries s 1139 1141 1141 1140 refl (enters s rule.COMMENT 191 192 at_COMMENT_atomic_apart refl refl refl refl refl) (between s) (many s 1142 (op.IsOne 0 1142 1140) refl (λ c z. z) (tight_between s) refl (inl (tested s 0 (outside_sub s.classes ((32, 32) ∷ (9, 9) ∷ (10, 10) ∷ (13, 13) ∷ []) rule.WHITESPACE refl refl refl (outside_choice s.classes ((32, 32) ∷ (9, 9) ∷ []) ((10, 10) ∷ (13, 13) ∷ []) false false (outside_set s.classes (one_of_two s.classes (one_text s.classes 32) (one_text s.classes 9))) (outside_sub s.classes ((10, 10) ∷ (13, 13) ∷ []) rule.newline refl refl refl (outside_choice s.classes ((10, 10) ∷ []) ((13, 13) ∷ []) false false (outside_set s.classes (one_text s.classes 10)) (outside_text s.classes))))) refl refl refl)) (within s rule.WHITESPACE refl refl refl (either s 1143 1142 1144 refl (at_once s) (one_of s 1 (one_of_two s.classes (one_text s.classes 32) (one_text s.classes 9)) refl refl refl) (tested s 2 (outside_sub s.classes ((10, 10) ∷ (13, 13) ∷ []) rule.newline refl refl refl (outside_choice s.classes ((10, 10) ∷ []) ((13, 13) ∷ []) false false (outside_set s.classes (one_text s.classes 10)) (outside_text s.classes))) refl refl refl) (within s rule.newline refl refl refl (either s 1145 1144 1145 refl (at_once s) (word s 30 refl refl refl) (at_once s) (word s 31 refl refl refl)))))) refl)))) (maybe s 1146 refl (noted s 43 1147 refl (outside_call s.classes ((48, 57) ∷ (45, 45) ∷ []) false rule.integer refl refl refl (outside_choice s.classes ((48, 57) ∷ []) ((45, 45) ∷ []) false false (outside_sub s.classes ((48, 57) ∷ []) rule.number refl refl refl (outside_some s.classes ((48, 57) ∷ []) false (outside_set s.classes (one_range s.classes 48 57)))) (outside_seq s.classes ((45, 45) ∷ []) false (outside_seq s.classes ((45, 45) ∷ []) false (outside_seq s.classes ((45, 45) ∷ []) false (outside_set s.classes (one_text s.classes 45))))))) refl refl refl refl) (calls s rule.integer 141 142 at_integer_atomic refl refl refl refl refl))) (trivia_in_place s (seq 1148 1148 (many s 1149 (op.IsOne 0 1149 1148) refl (λ c z. z) (tight_between s) refl (inl (tested s 0 (outside_sub s.classes ((32, 32) ∷ (9, 9) ∷ (10, 10) ∷ (13, 13) ∷ []) rule.WHITESPACE refl refl refl (outside_choice s.classes ((32, 32) ∷ (9, 9) ∷ []) ((10, 10) ∷ (13, 13) ∷ []) false false (outside_set s.classes (one_of_two s.classes (one_text s.classes 32) (one_text s.classes 9))) (outside_sub s.classes ((10, 10) ∷ (13, 13) ∷ []) rule.newline refl refl refl (outside_choice s.classes ((10, 10) ∷ []) ((13, 13) ∷ []) false false (outside_set s.classes (one_text s.classes 10)) (outside_text s.classes))))) refl refl refl)) (within s rule.WHITESPACE refl refl refl (either s 1150 1149 1151 refl (at_once s) (one_of s 1 (one_of_two s.classes (one_text s.classes 32) (one_text s.classes 9)) refl refl refl) (tested s 2 (outside_sub s.classes ((10, 10) ∷ (13, 13) ∷ []) rule.newline refl refl refl (outside_choice s.classes ((10, 10) ∷ []) ((13, 13) ∷ []) false false (outside_set s.classes (one_text s.classes 10)) (outside_text s.classes))) refl refl refl) (within s rule.newline refl refl refl (either s 1152 1151 1152 refl (at_once s) (word s 30 refl refl refl) (at_once s) (word s 31 refl refl refl)))))) (between s) (many s 1153 (op.IsOne 3 1153 1083) refl (λ c z. z) (tight_between s) refl (inl (tested s 3 (outside_seq s.classes ((47, 47) ∷ (47, 47) ∷ []) false (outside_sub s.classes ((47, 47) ∷ (47, 47) ∷ []) rule.COMMENT refl refl refl (outside_choice s.classes ((47, 47) ∷ []) ((47, 47) ∷ []) false false (outside_sub s.classes ((47, 47) ∷ []) rule.block_comment refl refl refl (outside_seq s.classes ((47, 47) ∷ []) false (outside_seq s.classes ((47, 47) ∷ []) false (outside_text s.classes)))) (outside_sub s.classes ((47, 47) ∷ []) rule.line_comment refl refl refl (outside_seq s.classes ((47, 47) ∷ []) false (outside_seq s.classes ((47, 47) ∷ []) false (outside_text s.classes))))))) refl refl refl)) (tries s 1154 1156 1156 1155 refl (enters s rule.COMMENT 191 192 at_COMMENT_atomic_apart refl refl refl refl refl) (between s) (many s 1157 (op.IsOne 0 1157 1155) refl (λ c z. z) (tight_between s) refl (inl (tested s 0 (outside_sub s.classes ((32, 32) ∷ (9, 9) ∷ (10, 10) ∷ (13, 13) ∷ []) rule.WHITESPACE refl refl refl (outside_choice s.classes ((32, 32) ∷ (9, 9) ∷ []) ((10, 10) ∷ (13, 13) ∷ []) false false (outside_set s.classes (one_of_two s.classes (one_text s.classes 32) (one_text s.classes 9))) (outside_sub s.classes ((10, 10) ∷ (13, 13) ∷ []) rule.newline refl refl refl (outside_choice s.classes ((10, 10) ∷ []) ((13, 13) ∷ []) false false (outside_set s.classes (one_text s.classes 10)) (outside_text s.classes))))) refl refl refl)) (within s rule.WHITESPACE refl refl refl (either s 1158 1157 1159 refl (at_once s) (one_of s 1 (one_of_two s.classes (one_text s.classes 32) (one_text s.classes 9)) refl refl refl) (tested s 2 (outside_sub s.classes ((10, 10) ∷ (13, 13) ∷ []) rule.newline refl refl refl (outside_choice s.classes ((10, 10) ∷ []) ((13, 13) ∷ []) false false (outside_set s.classes (one_text s.classes 10)) (outside_text s.classes))) refl refl refl) (within s rule.newline refl refl refl (either s 1160 1159 1160 refl (at_once s) (word s 30 refl refl refl) (at_once s) (word s 31 refl refl refl)))))) refl)))) (calls s rule.closing_brack 87 88 at_closing_brack_plain refl refl refl refl refl)
 
   identifier_atomic : Laid s (Run AtomicMode (body_of rule.identifier)) 151 152 0
   unfolding whitespace comment
@@ -905,11 +905,11 @@ module _ (classes : Classes) (code : CodeLists) (is : IsFastCode code) where
 
   insensitive_string_plain : Laid s (Run NonAtomicMode (body_of rule.insensitive_string)) 159 160 0
   unfolding whitespace comment
-  insensitive_string_plain = seq 1169 1170 (word s 23 refl refl refl) (gap_in_place s (seq 1171 1171 (many s 1172 (op.IsOne 0 1172 1171) refl (λ c z. z) (tight_between s) refl (inl (tested s 0 (outside_sub s.classes ((32, 32) ∷ (9, 9) ∷ (10, 10) ∷ (13, 13) ∷ []) rule.WHITESPACE refl refl refl (outside_choice s.classes ((32, 32) ∷ (9, 9) ∷ []) ((10, 10) ∷ (13, 13) ∷ []) false false (outside_set s.classes (one_of_two s.classes (one_text s.classes 32) (one_text s.classes 9))) (outside_sub s.classes ((10, 10) ∷ (13, 13) ∷ []) rule.newline refl refl refl (outside_choice s.classes ((10, 10) ∷ []) ((13, 13) ∷ []) false false (outside_set s.classes (one_text s.classes 10)) (outside_text s.classes))))) refl refl refl)) (within s rule.WHITESPACE refl refl refl (either s 1173 1172 1174 refl (at_once s) (one_of s 1 (one_of_two s.classes (one_text s.classes 32) (one_text s.classes 9)) refl refl refl) (tested s 2 (outside_sub s.classes ((10, 10) ∷ (13, 13) ∷ []) rule.newline refl refl refl (outside_choice s.classes ((10, 10) ∷ []) ((13, 13) ∷ []) false false (outside_set s.classes (one_text s.classes 10)) (outside_text s.classes))) refl refl refl) (within s rule.newline refl refl refl (either s 1175 1174 1175 refl (at_once s) (word s 30 refl refl refl) (at_once s) (word s 31 refl refl refl)))))) (between s) (many s 1176 (op.IsOne 3 1176 1170) refl (λ c z. z) (tight_between s) refl (inl (tested s 3 (outside_seq s.classes ((47, 47) ∷ (47, 47) ∷ []) false (outside_sub s.classes ((47, 47) ∷ (47, 47) ∷ []) rule.COMMENT refl refl refl (outside_choice s.classes ((47, 47) ∷ []) ((47, 47) ∷ []) false false (outside_sub s.classes ((47, 47) ∷ []) rule.block_comment refl refl refl (outside_seq s.classes ((47, 47) ∷ []) false (outside_seq s.classes ((47, 47) ∷ []) false (outside_text s.classes)))) (outside_sub s.classes ((47, 47) ∷ []) rule.line_comment refl refl refl (outside_seq s.classes ((47, 47) ∷ []) false (outside_seq s.classes ((47, 47) ∷ []) false (outside_text s.classes))))))) refl refl refl)) (tries s 1177 1179 1179 1178 refl (enters s rule.COMMENT 191 192 at_COMMENT_atomic_apart refl refl refl refl refl) (between s) (many s 1180 (op.IsOne 0 1180 1178) refl (λ c z. z) (tight_between s) refl (inl (tested s 0 (outside_sub s.classes ((32, 32) ∷ (9, 9) ∷ (10, 10) ∷ (13, 13) ∷ []) rule.WHITESPACE refl refl refl (outside_choice s.classes ((32, 32) ∷ (9, 9) ∷ []) ((10, 10) ∷ (13, 13) ∷ []) false false (outside_set s.classes (one_of_two s.classes (one_text s.classes 32) (one_text s.classes 9))) (outside_sub s.classes ((10, 10) ∷ (13, 13) ∷ []) rule.newline refl refl refl (outside_choice s.classes ((10, 10) ∷ []) ((13, 13) ∷ []) false false (outside_set s.classes (one_text s.classes 10)) (outside_text s.classes))))) refl refl refl)) (within s rule.WHITESPACE refl refl refl (either s 1181 1180 1182 refl (at_once s) (one_of s 1 (one_of_two s.classes (one_text s.classes 32) (one_text s.classes 9)) refl refl refl) (tested s 2 (outside_sub s.classes ((10, 10) ∷ (13, 13) ∷ []) rule.newline refl refl refl (outside_choice s.classes ((10, 10) ∷ []) ((13, 13) ∷ []) false false (outside_set s.classes (one_text s.classes 10)) (outside_text s.classes))) refl refl refl) (within s rule.newline refl refl refl (either s 1183 1182 1183 refl (at_once s) (word s 30 refl refl refl) (at_once s) (word s 31 refl refl refl)))))) refl)))) (calls s rule.string 157 158 at_string_compound refl refl refl refl refl)
+  insensitive_string_plain = seq 1169 1170 (word s 23 refl refl refl) (trivia_in_place s (seq 1171 1171 (many s 1172 (op.IsOne 0 1172 1171) refl (λ c z. z) (tight_between s) refl (inl (tested s 0 (outside_sub s.classes ((32, 32) ∷ (9, 9) ∷ (10, 10) ∷ (13, 13) ∷ []) rule.WHITESPACE refl refl refl (outside_choice s.classes ((32, 32) ∷ (9, 9) ∷ []) ((10, 10) ∷ (13, 13) ∷ []) false false (outside_set s.classes (one_of_two s.classes (one_text s.classes 32) (one_text s.classes 9))) (outside_sub s.classes ((10, 10) ∷ (13, 13) ∷ []) rule.newline refl refl refl (outside_choice s.classes ((10, 10) ∷ []) ((13, 13) ∷ []) false false (outside_set s.classes (one_text s.classes 10)) (outside_text s.classes))))) refl refl refl)) (within s rule.WHITESPACE refl refl refl (either s 1173 1172 1174 refl (at_once s) (one_of s 1 (one_of_two s.classes (one_text s.classes 32) (one_text s.classes 9)) refl refl refl) (tested s 2 (outside_sub s.classes ((10, 10) ∷ (13, 13) ∷ []) rule.newline refl refl refl (outside_choice s.classes ((10, 10) ∷ []) ((13, 13) ∷ []) false false (outside_set s.classes (one_text s.classes 10)) (outside_text s.classes))) refl refl refl) (within s rule.newline refl refl refl (either s 1175 1174 1175 refl (at_once s) (word s 30 refl refl refl) (at_once s) (word s 31 refl refl refl)))))) (between s) (many s 1176 (op.IsOne 3 1176 1170) refl (λ c z. z) (tight_between s) refl (inl (tested s 3 (outside_seq s.classes ((47, 47) ∷ (47, 47) ∷ []) false (outside_sub s.classes ((47, 47) ∷ (47, 47) ∷ []) rule.COMMENT refl refl refl (outside_choice s.classes ((47, 47) ∷ []) ((47, 47) ∷ []) false false (outside_sub s.classes ((47, 47) ∷ []) rule.block_comment refl refl refl (outside_seq s.classes ((47, 47) ∷ []) false (outside_seq s.classes ((47, 47) ∷ []) false (outside_text s.classes)))) (outside_sub s.classes ((47, 47) ∷ []) rule.line_comment refl refl refl (outside_seq s.classes ((47, 47) ∷ []) false (outside_seq s.classes ((47, 47) ∷ []) false (outside_text s.classes))))))) refl refl refl)) (tries s 1177 1179 1179 1178 refl (enters s rule.COMMENT 191 192 at_COMMENT_atomic_apart refl refl refl refl refl) (between s) (many s 1180 (op.IsOne 0 1180 1178) refl (λ c z. z) (tight_between s) refl (inl (tested s 0 (outside_sub s.classes ((32, 32) ∷ (9, 9) ∷ (10, 10) ∷ (13, 13) ∷ []) rule.WHITESPACE refl refl refl (outside_choice s.classes ((32, 32) ∷ (9, 9) ∷ []) ((10, 10) ∷ (13, 13) ∷ []) false false (outside_set s.classes (one_of_two s.classes (one_text s.classes 32) (one_text s.classes 9))) (outside_sub s.classes ((10, 10) ∷ (13, 13) ∷ []) rule.newline refl refl refl (outside_choice s.classes ((10, 10) ∷ []) ((13, 13) ∷ []) false false (outside_set s.classes (one_text s.classes 10)) (outside_text s.classes))))) refl refl refl)) (within s rule.WHITESPACE refl refl refl (either s 1181 1180 1182 refl (at_once s) (one_of s 1 (one_of_two s.classes (one_text s.classes 32) (one_text s.classes 9)) refl refl refl) (tested s 2 (outside_sub s.classes ((10, 10) ∷ (13, 13) ∷ []) rule.newline refl refl refl (outside_choice s.classes ((10, 10) ∷ []) ((13, 13) ∷ []) false false (outside_set s.classes (one_text s.classes 10)) (outside_text s.classes))) refl refl refl) (within s rule.newline refl refl refl (either s 1183 1182 1183 refl (at_once s) (word s 30 refl refl refl) (at_once s) (word s 31 refl refl refl)))))) refl)))) (calls s rule.string 157 158 at_string_compound refl refl refl refl refl)
 
   range_plain : Laid s (Run NonAtomicMode (body_of rule.range)) 161 162 0
   unfolding whitespace comment
-  range_plain = seq 1184 1185 (seq 1186 1187 (calls s rule.character 163 164 at_character_compound refl refl refl refl refl) (gap_in_place s (seq 1188 1188 (many s 1189 (op.IsOne 0 1189 1188) refl (λ c z. z) (tight_between s) refl (inl (tested s 0 (outside_sub s.classes ((32, 32) ∷ (9, 9) ∷ (10, 10) ∷ (13, 13) ∷ []) rule.WHITESPACE refl refl refl (outside_choice s.classes ((32, 32) ∷ (9, 9) ∷ []) ((10, 10) ∷ (13, 13) ∷ []) false false (outside_set s.classes (one_of_two s.classes (one_text s.classes 32) (one_text s.classes 9))) (outside_sub s.classes ((10, 10) ∷ (13, 13) ∷ []) rule.newline refl refl refl (outside_choice s.classes ((10, 10) ∷ []) ((13, 13) ∷ []) false false (outside_set s.classes (one_text s.classes 10)) (outside_text s.classes))))) refl refl refl)) (within s rule.WHITESPACE refl refl refl (either s 1190 1189 1191 refl (at_once s) (one_of s 1 (one_of_two s.classes (one_text s.classes 32) (one_text s.classes 9)) refl refl refl) (tested s 2 (outside_sub s.classes ((10, 10) ∷ (13, 13) ∷ []) rule.newline refl refl refl (outside_choice s.classes ((10, 10) ∷ []) ((13, 13) ∷ []) false false (outside_set s.classes (one_text s.classes 10)) (outside_text s.classes))) refl refl refl) (within s rule.newline refl refl refl (either s 1192 1191 1192 refl (at_once s) (word s 30 refl refl refl) (at_once s) (word s 31 refl refl refl)))))) (between s) (many s 1193 (op.IsOne 3 1193 1187) refl (λ c z. z) (tight_between s) refl (inl (tested s 3 (outside_seq s.classes ((47, 47) ∷ (47, 47) ∷ []) false (outside_sub s.classes ((47, 47) ∷ (47, 47) ∷ []) rule.COMMENT refl refl refl (outside_choice s.classes ((47, 47) ∷ []) ((47, 47) ∷ []) false false (outside_sub s.classes ((47, 47) ∷ []) rule.block_comment refl refl refl (outside_seq s.classes ((47, 47) ∷ []) false (outside_seq s.classes ((47, 47) ∷ []) false (outside_text s.classes)))) (outside_sub s.classes ((47, 47) ∷ []) rule.line_comment refl refl refl (outside_seq s.classes ((47, 47) ∷ []) false (outside_seq s.classes ((47, 47) ∷ []) false (outside_text s.classes))))))) refl refl refl)) (tries s 1194 1196 1196 1195 refl (enters s rule.COMMENT 191 192 at_COMMENT_atomic_apart refl refl refl refl refl) (between s) (many s 1197 (op.IsOne 0 1197 1195) refl (λ c z. z) (tight_between s) refl (inl (tested s 0 (outside_sub s.classes ((32, 32) ∷ (9, 9) ∷ (10, 10) ∷ (13, 13) ∷ []) rule.WHITESPACE refl refl refl (outside_choice s.classes ((32, 32) ∷ (9, 9) ∷ []) ((10, 10) ∷ (13, 13) ∷ []) false false (outside_set s.classes (one_of_two s.classes (one_text s.classes 32) (one_text s.classes 9))) (outside_sub s.classes ((10, 10) ∷ (13, 13) ∷ []) rule.newline refl refl refl (outside_choice s.classes ((10, 10) ∷ []) ((13, 13) ∷ []) false false (outside_set s.classes (one_text s.classes 10)) (outside_text s.classes))))) refl refl refl)) (within s rule.WHITESPACE refl refl refl (either s 1198 1197 1199 refl (at_once s) (one_of s 1 (one_of_two s.classes (one_text s.classes 32) (one_text s.classes 9)) refl refl refl) (tested s 2 (outside_sub s.classes ((10, 10) ∷ (13, 13) ∷ []) rule.newline refl refl refl (outside_choice s.classes ((10, 10) ∷ []) ((13, 13) ∷ []) false false (outside_set s.classes (one_text s.classes 10)) (outside_text s.classes))) refl refl refl) (within s rule.newline refl refl refl (either s 1200 1199 1200 refl (at_once s) (word s 30 refl refl refl) (at_once s) (word s 31 refl refl refl)))))) refl)))) (calls s rule.range_operator 181 182 at_range_operator_plain refl refl refl refl refl)) (gap_in_place s (seq 1201 1201 (many s 1202 (op.IsOne 0 1202 1201) refl (λ c z. z) (tight_between s) refl (inl (tested s 0 (outside_sub s.classes ((32, 32) ∷ (9, 9) ∷ (10, 10) ∷ (13, 13) ∷ []) rule.WHITESPACE refl refl refl (outside_choice s.classes ((32, 32) ∷ (9, 9) ∷ []) ((10, 10) ∷ (13, 13) ∷ []) false false (outside_set s.classes (one_of_two s.classes (one_text s.classes 32) (one_text s.classes 9))) (outside_sub s.classes ((10, 10) ∷ (13, 13) ∷ []) rule.newline refl refl refl (outside_choice s.classes ((10, 10) ∷ []) ((13, 13) ∷ []) false false (outside_set s.classes (one_text s.classes 10)) (outside_text s.classes))))) refl refl refl)) (within s rule.WHITESPACE refl refl refl (either s 1203 1202 1204 refl (at_once s) (one_of s 1 (one_of_two s.classes (one_text s.classes 32) (one_text s.classes 9)) refl refl refl) (tested s 2 (outside_sub s.classes ((10, 10) ∷ (13, 13) ∷ []) rule.newline refl refl refl (outside_choice s.classes ((10, 10) ∷ []) ((13, 13) ∷ []) false false (outside_set s.classes (one_text s.classes 10)) (outside_text s.classes))) refl refl refl) (within s rule.newline refl refl refl (either s 1205 1204 1205 refl (at_once s) (word s 30 refl refl refl) (at_once s) (word s 31 refl refl refl)))))) (between s) (many s 1206 (op.IsOne 3 1206 1185) refl (λ c z. z) (tight_between s) refl (inl (tested s 3 (outside_seq s.classes ((47, 47) ∷ (47, 47) ∷ []) false (outside_sub s.classes ((47, 47) ∷ (47, 47) ∷ []) rule.COMMENT refl refl refl (outside_choice s.classes ((47, 47) ∷ []) ((47, 47) ∷ []) false false (outside_sub s.classes ((47, 47) ∷ []) rule.block_comment refl refl refl (outside_seq s.classes ((47, 47) ∷ []) false (outside_seq s.classes ((47, 47) ∷ []) false (outside_text s.classes)))) (outside_sub s.classes ((47, 47) ∷ []) rule.line_comment refl refl refl (outside_seq s.classes ((47, 47) ∷ []) false (outside_seq s.classes ((47, 47) ∷ []) false (outside_text s.classes))))))) refl refl refl)) (tries s 1207 1209 1209 1208 refl (enters s rule.COMMENT 191 192 at_COMMENT_atomic_apart refl refl refl refl refl) (between s) (many s 1210 (op.IsOne 0 1210 1208) refl (λ c z. z) (tight_between s) refl (inl (tested s 0 (outside_sub s.classes ((32, 32) ∷ (9, 9) ∷ (10, 10) ∷ (13, 13) ∷ []) rule.WHITESPACE refl refl refl (outside_choice s.classes ((32, 32) ∷ (9, 9) ∷ []) ((10, 10) ∷ (13, 13) ∷ []) false false (outside_set s.classes (one_of_two s.classes (one_text s.classes 32) (one_text s.classes 9))) (outside_sub s.classes ((10, 10) ∷ (13, 13) ∷ []) rule.newline refl refl refl (outside_choice s.classes ((10, 10) ∷ []) ((13, 13) ∷ []) false false (outside_set s.classes (one_text s.classes 10)) (outside_text s.classes))))) refl refl refl)) (within s rule.WHITESPACE refl refl refl (either s 1211 1210 1212 refl (at_once s) (one_of s 1 (one_of_two s.classes (one_text s.classes 32) (one_text s.classes 9)) refl refl refl) (tested s 2 (outside_sub s.classes ((10, 10) ∷ (13, 13) ∷ []) rule.newline refl refl refl (outside_choice s.classes ((10, 10) ∷ []) ((13, 13) ∷ []) false false (outside_set s.classes (one_text s.classes 10)) (outside_text s.classes))) refl refl refl) (within s rule.newline refl refl refl (either s 1213 1212 1213 refl (at_once s) (word s 30 refl refl refl) (at_once s) (word s 31 refl refl refl)))))) refl)))) (calls s rule.character 163 164 at_character_compound refl refl refl refl refl)
+  range_plain = seq 1184 1185 (seq 1186 1187 (calls s rule.character 163 164 at_character_compound refl refl refl refl refl) (trivia_in_place s (seq 1188 1188 (many s 1189 (op.IsOne 0 1189 1188) refl (λ c z. z) (tight_between s) refl (inl (tested s 0 (outside_sub s.classes ((32, 32) ∷ (9, 9) ∷ (10, 10) ∷ (13, 13) ∷ []) rule.WHITESPACE refl refl refl (outside_choice s.classes ((32, 32) ∷ (9, 9) ∷ []) ((10, 10) ∷ (13, 13) ∷ []) false false (outside_set s.classes (one_of_two s.classes (one_text s.classes 32) (one_text s.classes 9))) (outside_sub s.classes ((10, 10) ∷ (13, 13) ∷ []) rule.newline refl refl refl (outside_choice s.classes ((10, 10) ∷ []) ((13, 13) ∷ []) false false (outside_set s.classes (one_text s.classes 10)) (outside_text s.classes))))) refl refl refl)) (within s rule.WHITESPACE refl refl refl (either s 1190 1189 1191 refl (at_once s) (one_of s 1 (one_of_two s.classes (one_text s.classes 32) (one_text s.classes 9)) refl refl refl) (tested s 2 (outside_sub s.classes ((10, 10) ∷ (13, 13) ∷ []) rule.newline refl refl refl (outside_choice s.classes ((10, 10) ∷ []) ((13, 13) ∷ []) false false (outside_set s.classes (one_text s.classes 10)) (outside_text s.classes))) refl refl refl) (within s rule.newline refl refl refl (either s 1192 1191 1192 refl (at_once s) (word s 30 refl refl refl) (at_once s) (word s 31 refl refl refl)))))) (between s) (many s 1193 (op.IsOne 3 1193 1187) refl (λ c z. z) (tight_between s) refl (inl (tested s 3 (outside_seq s.classes ((47, 47) ∷ (47, 47) ∷ []) false (outside_sub s.classes ((47, 47) ∷ (47, 47) ∷ []) rule.COMMENT refl refl refl (outside_choice s.classes ((47, 47) ∷ []) ((47, 47) ∷ []) false false (outside_sub s.classes ((47, 47) ∷ []) rule.block_comment refl refl refl (outside_seq s.classes ((47, 47) ∷ []) false (outside_seq s.classes ((47, 47) ∷ []) false (outside_text s.classes)))) (outside_sub s.classes ((47, 47) ∷ []) rule.line_comment refl refl refl (outside_seq s.classes ((47, 47) ∷ []) false (outside_seq s.classes ((47, 47) ∷ []) false (outside_text s.classes))))))) refl refl refl)) (tries s 1194 1196 1196 1195 refl (enters s rule.COMMENT 191 192 at_COMMENT_atomic_apart refl refl refl refl refl) (between s) (many s 1197 (op.IsOne 0 1197 1195) refl (λ c z. z) (tight_between s) refl (inl (tested s 0 (outside_sub s.classes ((32, 32) ∷ (9, 9) ∷ (10, 10) ∷ (13, 13) ∷ []) rule.WHITESPACE refl refl refl (outside_choice s.classes ((32, 32) ∷ (9, 9) ∷ []) ((10, 10) ∷ (13, 13) ∷ []) false false (outside_set s.classes (one_of_two s.classes (one_text s.classes 32) (one_text s.classes 9))) (outside_sub s.classes ((10, 10) ∷ (13, 13) ∷ []) rule.newline refl refl refl (outside_choice s.classes ((10, 10) ∷ []) ((13, 13) ∷ []) false false (outside_set s.classes (one_text s.classes 10)) (outside_text s.classes))))) refl refl refl)) (within s rule.WHITESPACE refl refl refl (either s 1198 1197 1199 refl (at_once s) (one_of s 1 (one_of_two s.classes (one_text s.classes 32) (one_text s.classes 9)) refl refl refl) (tested s 2 (outside_sub s.classes ((10, 10) ∷ (13, 13) ∷ []) rule.newline refl refl refl (outside_choice s.classes ((10, 10) ∷ []) ((13, 13) ∷ []) false false (outside_set s.classes (one_text s.classes 10)) (outside_text s.classes))) refl refl refl) (within s rule.newline refl refl refl (either s 1200 1199 1200 refl (at_once s) (word s 30 refl refl refl) (at_once s) (word s 31 refl refl refl)))))) refl)))) (calls s rule.range_operator 181 182 at_range_operator_plain refl refl refl refl refl)) (trivia_in_place s (seq 1201 1201 (many s 1202 (op.IsOne 0 1202 1201) refl (λ c z. z) (tight_between s) refl (inl (tested s 0 (outside_sub s.classes ((32, 32) ∷ (9, 9) ∷ (10, 10) ∷ (13, 13) ∷ []) rule.WHITESPACE refl refl refl (outside_choice s.classes ((32, 32) ∷ (9, 9) ∷ []) ((10, 10) ∷ (13, 13) ∷ []) false false (outside_set s.classes (one_of_two s.classes (one_text s.classes 32) (one_text s.classes 9))) (outside_sub s.classes ((10, 10) ∷ (13, 13) ∷ []) rule.newline refl refl refl (outside_choice s.classes ((10, 10) ∷ []) ((13, 13) ∷ []) false false (outside_set s.classes (one_text s.classes 10)) (outside_text s.classes))))) refl refl refl)) (within s rule.WHITESPACE refl refl refl (either s 1203 1202 1204 refl (at_once s) (one_of s 1 (one_of_two s.classes (one_text s.classes 32) (one_text s.classes 9)) refl refl refl) (tested s 2 (outside_sub s.classes ((10, 10) ∷ (13, 13) ∷ []) rule.newline refl refl refl (outside_choice s.classes ((10, 10) ∷ []) ((13, 13) ∷ []) false false (outside_set s.classes (one_text s.classes 10)) (outside_text s.classes))) refl refl refl) (within s rule.newline refl refl refl (either s 1205 1204 1205 refl (at_once s) (word s 30 refl refl refl) (at_once s) (word s 31 refl refl refl)))))) (between s) (many s 1206 (op.IsOne 3 1206 1185) refl (λ c z. z) (tight_between s) refl (inl (tested s 3 (outside_seq s.classes ((47, 47) ∷ (47, 47) ∷ []) false (outside_sub s.classes ((47, 47) ∷ (47, 47) ∷ []) rule.COMMENT refl refl refl (outside_choice s.classes ((47, 47) ∷ []) ((47, 47) ∷ []) false false (outside_sub s.classes ((47, 47) ∷ []) rule.block_comment refl refl refl (outside_seq s.classes ((47, 47) ∷ []) false (outside_seq s.classes ((47, 47) ∷ []) false (outside_text s.classes)))) (outside_sub s.classes ((47, 47) ∷ []) rule.line_comment refl refl refl (outside_seq s.classes ((47, 47) ∷ []) false (outside_seq s.classes ((47, 47) ∷ []) false (outside_text s.classes))))))) refl refl refl)) (tries s 1207 1209 1209 1208 refl (enters s rule.COMMENT 191 192 at_COMMENT_atomic_apart refl refl refl refl refl) (between s) (many s 1210 (op.IsOne 0 1210 1208) refl (λ c z. z) (tight_between s) refl (inl (tested s 0 (outside_sub s.classes ((32, 32) ∷ (9, 9) ∷ (10, 10) ∷ (13, 13) ∷ []) rule.WHITESPACE refl refl refl (outside_choice s.classes ((32, 32) ∷ (9, 9) ∷ []) ((10, 10) ∷ (13, 13) ∷ []) false false (outside_set s.classes (one_of_two s.classes (one_text s.classes 32) (one_text s.classes 9))) (outside_sub s.classes ((10, 10) ∷ (13, 13) ∷ []) rule.newline refl refl refl (outside_choice s.classes ((10, 10) ∷ []) ((13, 13) ∷ []) false false (outside_set s.classes (one_text s.classes 10)) (outside_text s.classes))))) refl refl refl)) (within s rule.WHITESPACE refl refl refl (either s 1211 1210 1212 refl (at_once s) (one_of s 1 (one_of_two s.classes (one_text s.classes 32) (one_text s.classes 9)) refl refl refl) (tested s 2 (outside_sub s.classes ((10, 10) ∷ (13, 13) ∷ []) rule.newline refl refl refl (outside_choice s.classes ((10, 10) ∷ []) ((13, 13) ∷ []) false false (outside_set s.classes (one_text s.classes 10)) (outside_text s.classes))) refl refl refl) (within s rule.newline refl refl refl (either s 1213 1212 1213 refl (at_once s) (word s 30 refl refl refl) (at_once s) (word s 31 refl refl refl)))))) refl)))) (calls s rule.character 163 164 at_character_compound refl refl refl refl refl)
 
   character_compound : Laid s (Run CompoundAtomicMode (body_of rule.character)) 163 164 0
   unfolding whitespace comment
@@ -961,11 +961,11 @@ module _ (classes : Classes) (code : CodeLists) (is : IsFastCode code) where
 
   line_comment_plain_apart : Laid s (Run NonAtomicMode (body_of rule.line_comment)) 187 188 0
   unfolding whitespace comment
-  line_comment_plain_apart = seq 1251 1252 (seq 1253 1254 (word s 32 refl refl refl) (gap_in_place s (seq 1255 1255 (many s 1256 (op.IsOne 0 1256 1255) refl (λ c z. z) (tight_between s) refl (inl (tested s 0 (outside_sub s.classes ((32, 32) ∷ (9, 9) ∷ (10, 10) ∷ (13, 13) ∷ []) rule.WHITESPACE refl refl refl (outside_choice s.classes ((32, 32) ∷ (9, 9) ∷ []) ((10, 10) ∷ (13, 13) ∷ []) false false (outside_set s.classes (one_of_two s.classes (one_text s.classes 32) (one_text s.classes 9))) (outside_sub s.classes ((10, 10) ∷ (13, 13) ∷ []) rule.newline refl refl refl (outside_choice s.classes ((10, 10) ∷ []) ((13, 13) ∷ []) false false (outside_set s.classes (one_text s.classes 10)) (outside_text s.classes))))) refl refl refl)) (within s rule.WHITESPACE refl refl refl (either s 1257 1256 1258 refl (at_once s) (one_of s 1 (one_of_two s.classes (one_text s.classes 32) (one_text s.classes 9)) refl refl refl) (tested s 2 (outside_sub s.classes ((10, 10) ∷ (13, 13) ∷ []) rule.newline refl refl refl (outside_choice s.classes ((10, 10) ∷ []) ((13, 13) ∷ []) false false (outside_set s.classes (one_text s.classes 10)) (outside_text s.classes))) refl refl refl) (within s rule.newline refl refl refl (either s 1259 1258 1259 refl (at_once s) (word s 30 refl refl refl) (at_once s) (word s 31 refl refl refl)))))) (between s) (many s 1260 (op.IsOne 3 1260 1254) refl (λ c z. z) (tight_between s) refl (inl (tested s 3 (outside_seq s.classes ((47, 47) ∷ (47, 47) ∷ []) false (outside_sub s.classes ((47, 47) ∷ (47, 47) ∷ []) rule.COMMENT refl refl refl (outside_choice s.classes ((47, 47) ∷ []) ((47, 47) ∷ []) false false (outside_sub s.classes ((47, 47) ∷ []) rule.block_comment refl refl refl (outside_seq s.classes ((47, 47) ∷ []) false (outside_seq s.classes ((47, 47) ∷ []) false (outside_text s.classes)))) (outside_sub s.classes ((47, 47) ∷ []) rule.line_comment refl refl refl (outside_seq s.classes ((47, 47) ∷ []) false (outside_seq s.classes ((47, 47) ∷ []) false (outside_text s.classes))))))) refl refl refl)) (tries s 1261 1263 1263 1262 refl (enters s rule.COMMENT 191 192 at_COMMENT_atomic_apart refl refl refl refl refl) (between s) (many s 1264 (op.IsOne 0 1264 1262) refl (λ c z. z) (tight_between s) refl (inl (tested s 0 (outside_sub s.classes ((32, 32) ∷ (9, 9) ∷ (10, 10) ∷ (13, 13) ∷ []) rule.WHITESPACE refl refl refl (outside_choice s.classes ((32, 32) ∷ (9, 9) ∷ []) ((10, 10) ∷ (13, 13) ∷ []) false false (outside_set s.classes (one_of_two s.classes (one_text s.classes 32) (one_text s.classes 9))) (outside_sub s.classes ((10, 10) ∷ (13, 13) ∷ []) rule.newline refl refl refl (outside_choice s.classes ((10, 10) ∷ []) ((13, 13) ∷ []) false false (outside_set s.classes (one_text s.classes 10)) (outside_text s.classes))))) refl refl refl)) (within s rule.WHITESPACE refl refl refl (either s 1265 1264 1266 refl (at_once s) (one_of s 1 (one_of_two s.classes (one_text s.classes 32) (one_text s.classes 9)) refl refl refl) (tested s 2 (outside_sub s.classes ((10, 10) ∷ (13, 13) ∷ []) rule.newline refl refl refl (outside_choice s.classes ((10, 10) ∷ []) ((13, 13) ∷ []) false false (outside_set s.classes (one_text s.classes 10)) (outside_text s.classes))) refl refl refl) (within s rule.newline refl refl refl (either s 1267 1266 1267 refl (at_once s) (word s 30 refl refl refl) (at_once s) (word s 31 refl refl refl)))))) refl)))) (never s 1268 1269 refl (one_of s 54 (one_of_two s.classes (one_text s.classes 47) (one_text s.classes 33)) refl refl refl) refl)) (gap_in_place s (seq 1270 1270 (many s 1271 (op.IsOne 0 1271 1270) refl (λ c z. z) (tight_between s) refl (inl (tested s 0 (outside_sub s.classes ((32, 32) ∷ (9, 9) ∷ (10, 10) ∷ (13, 13) ∷ []) rule.WHITESPACE refl refl refl (outside_choice s.classes ((32, 32) ∷ (9, 9) ∷ []) ((10, 10) ∷ (13, 13) ∷ []) false false (outside_set s.classes (one_of_two s.classes (one_text s.classes 32) (one_text s.classes 9))) (outside_sub s.classes ((10, 10) ∷ (13, 13) ∷ []) rule.newline refl refl refl (outside_choice s.classes ((10, 10) ∷ []) ((13, 13) ∷ []) false false (outside_set s.classes (one_text s.classes 10)) (outside_text s.classes))))) refl refl refl)) (within s rule.WHITESPACE refl refl refl (either s 1272 1271 1273 refl (at_once s) (one_of s 1 (one_of_two s.classes (one_text s.classes 32) (one_text s.classes 9)) refl refl refl) (tested s 2 (outside_sub s.classes ((10, 10) ∷ (13, 13) ∷ []) rule.newline refl refl refl (outside_choice s.classes ((10, 10) ∷ []) ((13, 13) ∷ []) false false (outside_set s.classes (one_text s.classes 10)) (outside_text s.classes))) refl refl refl) (within s rule.newline refl refl refl (either s 1274 1273 1274 refl (at_once s) (word s 30 refl refl refl) (at_once s) (word s 31 refl refl refl)))))) (between s) (many s 1275 (op.IsOne 3 1275 1252) refl (λ c z. z) (tight_between s) refl (inl (tested s 3 (outside_seq s.classes ((47, 47) ∷ (47, 47) ∷ []) false (outside_sub s.classes ((47, 47) ∷ (47, 47) ∷ []) rule.COMMENT refl refl refl (outside_choice s.classes ((47, 47) ∷ []) ((47, 47) ∷ []) false false (outside_sub s.classes ((47, 47) ∷ []) rule.block_comment refl refl refl (outside_seq s.classes ((47, 47) ∷ []) false (outside_seq s.classes ((47, 47) ∷ []) false (outside_text s.classes)))) (outside_sub s.classes ((47, 47) ∷ []) rule.line_comment refl refl refl (outside_seq s.classes ((47, 47) ∷ []) false (outside_seq s.classes ((47, 47) ∷ []) false (outside_text s.classes))))))) refl refl refl)) (tries s 1276 1278 1278 1277 refl (enters s rule.COMMENT 191 192 at_COMMENT_atomic_apart refl refl refl refl refl) (between s) (many s 1279 (op.IsOne 0 1279 1277) refl (λ c z. z) (tight_between s) refl (inl (tested s 0 (outside_sub s.classes ((32, 32) ∷ (9, 9) ∷ (10, 10) ∷ (13, 13) ∷ []) rule.WHITESPACE refl refl refl (outside_choice s.classes ((32, 32) ∷ (9, 9) ∷ []) ((10, 10) ∷ (13, 13) ∷ []) false false (outside_set s.classes (one_of_two s.classes (one_text s.classes 32) (one_text s.classes 9))) (outside_sub s.classes ((10, 10) ∷ (13, 13) ∷ []) rule.newline refl refl refl (outside_choice s.classes ((10, 10) ∷ []) ((13, 13) ∷ []) false false (outside_set s.classes (one_text s.classes 10)) (outside_text s.classes))))) refl refl refl)) (within s rule.WHITESPACE refl refl refl (either s 1280 1279 1281 refl (at_once s) (one_of s 1 (one_of_two s.classes (one_text s.classes 32) (one_text s.classes 9)) refl refl refl) (tested s 2 (outside_sub s.classes ((10, 10) ∷ (13, 13) ∷ []) rule.newline refl refl refl (outside_choice s.classes ((10, 10) ∷ []) ((13, 13) ∷ []) false false (outside_set s.classes (one_text s.classes 10)) (outside_text s.classes))) refl refl refl) (within s rule.newline refl refl refl (either s 1282 1281 1282 refl (at_once s) (word s 30 refl refl refl) (at_once s) (word s 31 refl refl refl)))))) refl)))) (turns s 1252 1283 1284 1285 1286 refl (at_once s) refl refl (gap_in_place s (seq 1287 1287 (many s 1288 (op.IsOne 0 1288 1287) refl (λ c z. z) (tight_between s) refl (inl (tested s 0 (outside_sub s.classes ((32, 32) ∷ (9, 9) ∷ (10, 10) ∷ (13, 13) ∷ []) rule.WHITESPACE refl refl refl (outside_choice s.classes ((32, 32) ∷ (9, 9) ∷ []) ((10, 10) ∷ (13, 13) ∷ []) false false (outside_set s.classes (one_of_two s.classes (one_text s.classes 32) (one_text s.classes 9))) (outside_sub s.classes ((10, 10) ∷ (13, 13) ∷ []) rule.newline refl refl refl (outside_choice s.classes ((10, 10) ∷ []) ((13, 13) ∷ []) false false (outside_set s.classes (one_text s.classes 10)) (outside_text s.classes))))) refl refl refl)) (within s rule.WHITESPACE refl refl refl (either s 1289 1288 1290 refl (at_once s) (one_of s 1 (one_of_two s.classes (one_text s.classes 32) (one_text s.classes 9)) refl refl refl) (tested s 2 (outside_sub s.classes ((10, 10) ∷ (13, 13) ∷ []) rule.newline refl refl refl (outside_choice s.classes ((10, 10) ∷ []) ((13, 13) ∷ []) false false (outside_set s.classes (one_text s.classes 10)) (outside_text s.classes))) refl refl refl) (within s rule.newline refl refl refl (either s 1291 1290 1291 refl (at_once s) (word s 30 refl refl refl) (at_once s) (word s 31 refl refl refl)))))) (between s) (many s 1292 (op.IsOne 3 1292 1285) refl (λ c z. z) (tight_between s) refl (inl (tested s 3 (outside_seq s.classes ((47, 47) ∷ (47, 47) ∷ []) false (outside_sub s.classes ((47, 47) ∷ (47, 47) ∷ []) rule.COMMENT refl refl refl (outside_choice s.classes ((47, 47) ∷ []) ((47, 47) ∷ []) false false (outside_sub s.classes ((47, 47) ∷ []) rule.block_comment refl refl refl (outside_seq s.classes ((47, 47) ∷ []) false (outside_seq s.classes ((47, 47) ∷ []) false (outside_text s.classes)))) (outside_sub s.classes ((47, 47) ∷ []) rule.line_comment refl refl refl (outside_seq s.classes ((47, 47) ∷ []) false (outside_seq s.classes ((47, 47) ∷ []) false (outside_text s.classes))))))) refl refl refl)) (tries s 1293 1295 1295 1294 refl (enters s rule.COMMENT 191 192 at_COMMENT_atomic_apart refl refl refl refl refl) (between s) (many s 1296 (op.IsOne 0 1296 1294) refl (λ c z. z) (tight_between s) refl (inl (tested s 0 (outside_sub s.classes ((32, 32) ∷ (9, 9) ∷ (10, 10) ∷ (13, 13) ∷ []) rule.WHITESPACE refl refl refl (outside_choice s.classes ((32, 32) ∷ (9, 9) ∷ []) ((10, 10) ∷ (13, 13) ∷ []) false false (outside_set s.classes (one_of_two s.classes (one_text s.classes 32) (one_text s.classes 9))) (outside_sub s.classes ((10, 10) ∷ (13, 13) ∷ []) rule.newline refl refl refl (outside_choice s.classes ((10, 10) ∷ []) ((13, 13) ∷ []) false false (outside_set s.classes (one_text s.classes 10)) (outside_text s.classes))))) refl refl refl)) (within s rule.WHITESPACE refl refl refl (either s 1297 1296 1298 refl (at_once s) (one_of s 1 (one_of_two s.classes (one_text s.classes 32) (one_text s.classes 9)) refl refl refl) (tested s 2 (outside_sub s.classes ((10, 10) ∷ (13, 13) ∷ []) rule.newline refl refl refl (outside_choice s.classes ((10, 10) ∷ []) ((13, 13) ∷ []) false false (outside_set s.classes (one_text s.classes 10)) (outside_text s.classes))) refl refl refl) (within s rule.newline refl refl refl (either s 1299 1298 1299 refl (at_once s) (word s 30 refl refl refl) (at_once s) (word s 31 refl refl refl)))))) refl)))) (seq 1300 1301 (never s 1302 1303 refl (within s rule.newline refl refl refl (either s 1304 1302 1304 refl (at_once s) (word s 30 refl refl refl) (at_once s) (word s 31 refl refl refl))) refl) (gap_in_place s (seq 1305 1305 (many s 1306 (op.IsOne 0 1306 1305) refl (λ c z. z) (tight_between s) refl (inl (tested s 0 (outside_sub s.classes ((32, 32) ∷ (9, 9) ∷ (10, 10) ∷ (13, 13) ∷ []) rule.WHITESPACE refl refl refl (outside_choice s.classes ((32, 32) ∷ (9, 9) ∷ []) ((10, 10) ∷ (13, 13) ∷ []) false false (outside_set s.classes (one_of_two s.classes (one_text s.classes 32) (one_text s.classes 9))) (outside_sub s.classes ((10, 10) ∷ (13, 13) ∷ []) rule.newline refl refl refl (outside_choice s.classes ((10, 10) ∷ []) ((13, 13) ∷ []) false false (outside_set s.classes (one_text s.classes 10)) (outside_text s.classes))))) refl refl refl)) (within s rule.WHITESPACE refl refl refl (either s 1307 1306 1308 refl (at_once s) (one_of s 1 (one_of_two s.classes (one_text s.classes 32) (one_text s.classes 9)) refl refl refl) (tested s 2 (outside_sub s.classes ((10, 10) ∷ (13, 13) ∷ []) rule.newline refl refl refl (outside_choice s.classes ((10, 10) ∷ []) ((13, 13) ∷ []) false false (outside_set s.classes (one_text s.classes 10)) (outside_text s.classes))) refl refl refl) (within s rule.newline refl refl refl (either s 1309 1308 1309 refl (at_once s) (word s 30 refl refl refl) (at_once s) (word s 31 refl refl refl)))))) (between s) (many s 1310 (op.IsOne 3 1310 1301) refl (λ c z. z) (tight_between s) refl (inl (tested s 3 (outside_seq s.classes ((47, 47) ∷ (47, 47) ∷ []) false (outside_sub s.classes ((47, 47) ∷ (47, 47) ∷ []) rule.COMMENT refl refl refl (outside_choice s.classes ((47, 47) ∷ []) ((47, 47) ∷ []) false false (outside_sub s.classes ((47, 47) ∷ []) rule.block_comment refl refl refl (outside_seq s.classes ((47, 47) ∷ []) false (outside_seq s.classes ((47, 47) ∷ []) false (outside_text s.classes)))) (outside_sub s.classes ((47, 47) ∷ []) rule.line_comment refl refl refl (outside_seq s.classes ((47, 47) ∷ []) false (outside_seq s.classes ((47, 47) ∷ []) false (outside_text s.classes))))))) refl refl refl)) (tries s 1311 1313 1313 1312 refl (enters s rule.COMMENT 191 192 at_COMMENT_atomic_apart refl refl refl refl refl) (between s) (many s 1314 (op.IsOne 0 1314 1312) refl (λ c z. z) (tight_between s) refl (inl (tested s 0 (outside_sub s.classes ((32, 32) ∷ (9, 9) ∷ (10, 10) ∷ (13, 13) ∷ []) rule.WHITESPACE refl refl refl (outside_choice s.classes ((32, 32) ∷ (9, 9) ∷ []) ((10, 10) ∷ (13, 13) ∷ []) false false (outside_set s.classes (one_of_two s.classes (one_text s.classes 32) (one_text s.classes 9))) (outside_sub s.classes ((10, 10) ∷ (13, 13) ∷ []) rule.newline refl refl refl (outside_choice s.classes ((10, 10) ∷ []) ((13, 13) ∷ []) false false (outside_set s.classes (one_text s.classes 10)) (outside_text s.classes))))) refl refl refl)) (within s rule.WHITESPACE refl refl refl (either s 1315 1314 1316 refl (at_once s) (one_of s 1 (one_of_two s.classes (one_text s.classes 32) (one_text s.classes 9)) refl refl refl) (tested s 2 (outside_sub s.classes ((10, 10) ∷ (13, 13) ∷ []) rule.newline refl refl refl (outside_choice s.classes ((10, 10) ∷ []) ((13, 13) ∷ []) false false (outside_set s.classes (one_text s.classes 10)) (outside_text s.classes))) refl refl refl) (within s rule.newline refl refl refl (either s 1317 1316 1317 refl (at_once s) (word s 30 refl refl refl) (at_once s) (word s 31 refl refl refl)))))) refl)))) (one_of s 55 (one_any s.classes tt) refl refl refl)) refl)
+  line_comment_plain_apart = seq 1251 1252 (seq 1253 1254 (word s 32 refl refl refl) (trivia_in_place s (seq 1255 1255 (many s 1256 (op.IsOne 0 1256 1255) refl (λ c z. z) (tight_between s) refl (inl (tested s 0 (outside_sub s.classes ((32, 32) ∷ (9, 9) ∷ (10, 10) ∷ (13, 13) ∷ []) rule.WHITESPACE refl refl refl (outside_choice s.classes ((32, 32) ∷ (9, 9) ∷ []) ((10, 10) ∷ (13, 13) ∷ []) false false (outside_set s.classes (one_of_two s.classes (one_text s.classes 32) (one_text s.classes 9))) (outside_sub s.classes ((10, 10) ∷ (13, 13) ∷ []) rule.newline refl refl refl (outside_choice s.classes ((10, 10) ∷ []) ((13, 13) ∷ []) false false (outside_set s.classes (one_text s.classes 10)) (outside_text s.classes))))) refl refl refl)) (within s rule.WHITESPACE refl refl refl (either s 1257 1256 1258 refl (at_once s) (one_of s 1 (one_of_two s.classes (one_text s.classes 32) (one_text s.classes 9)) refl refl refl) (tested s 2 (outside_sub s.classes ((10, 10) ∷ (13, 13) ∷ []) rule.newline refl refl refl (outside_choice s.classes ((10, 10) ∷ []) ((13, 13) ∷ []) false false (outside_set s.classes (one_text s.classes 10)) (outside_text s.classes))) refl refl refl) (within s rule.newline refl refl refl (either s 1259 1258 1259 refl (at_once s) (word s 30 refl refl refl) (at_once s) (word s 31 refl refl refl)))))) (between s) (many s 1260 (op.IsOne 3 1260 1254) refl (λ c z. z) (tight_between s) refl (inl (tested s 3 (outside_seq s.classes ((47, 47) ∷ (47, 47) ∷ []) false (outside_sub s.classes ((47, 47) ∷ (47, 47) ∷ []) rule.COMMENT refl refl refl (outside_choice s.classes ((47, 47) ∷ []) ((47, 47) ∷ []) false false (outside_sub s.classes ((47, 47) ∷ []) rule.block_comment refl refl refl (outside_seq s.classes ((47, 47) ∷ []) false (outside_seq s.classes ((47, 47) ∷ []) false (outside_text s.classes)))) (outside_sub s.classes ((47, 47) ∷ []) rule.line_comment refl refl refl (outside_seq s.classes ((47, 47) ∷ []) false (outside_seq s.classes ((47, 47) ∷ []) false (outside_text s.classes))))))) refl refl refl)) (tries s 1261 1263 1263 1262 refl (enters s rule.COMMENT 191 192 at_COMMENT_atomic_apart refl refl refl refl refl) (between s) (many s 1264 (op.IsOne 0 1264 1262) refl (λ c z. z) (tight_between s) refl (inl (tested s 0 (outside_sub s.classes ((32, 32) ∷ (9, 9) ∷ (10, 10) ∷ (13, 13) ∷ []) rule.WHITESPACE refl refl refl (outside_choice s.classes ((32, 32) ∷ (9, 9) ∷ []) ((10, 10) ∷ (13, 13) ∷ []) false false (outside_set s.classes (one_of_two s.classes (one_text s.classes 32) (one_text s.classes 9))) (outside_sub s.classes ((10, 10) ∷ (13, 13) ∷ []) rule.newline refl refl refl (outside_choice s.classes ((10, 10) ∷ []) ((13, 13) ∷ []) false false (outside_set s.classes (one_text s.classes 10)) (outside_text s.classes))))) refl refl refl)) (within s rule.WHITESPACE refl refl refl (either s 1265 1264 1266 refl (at_once s) (one_of s 1 (one_of_two s.classes (one_text s.classes 32) (one_text s.classes 9)) refl refl refl) (tested s 2 (outside_sub s.classes ((10, 10) ∷ (13, 13) ∷ []) rule.newline refl refl refl (outside_choice s.classes ((10, 10) ∷ []) ((13, 13) ∷ []) false false (outside_set s.classes (one_text s.classes 10)) (outside_text s.classes))) refl refl refl) (within s rule.newline refl refl refl (either s 1267 1266 1267 refl (at_once s) (word s 30 refl refl refl) (at_once s) (word s 31 refl refl refl)))))) refl)))) (never s 1268 1269 refl (one_of s 54 (one_of_two s.classes (one_text s.classes 47) (one_text s.classes 33)) refl refl refl) refl)) (trivia_in_place s (seq 1270 1270 (many s 1271 (op.IsOne 0 1271 1270) refl (λ c z. z) (tight_between s) refl (inl (tested s 0 (outside_sub s.classes ((32, 32) ∷ (9, 9) ∷ (10, 10) ∷ (13, 13) ∷ []) rule.WHITESPACE refl refl refl (outside_choice s.classes ((32, 32) ∷ (9, 9) ∷ []) ((10, 10) ∷ (13, 13) ∷ []) false false (outside_set s.classes (one_of_two s.classes (one_text s.classes 32) (one_text s.classes 9))) (outside_sub s.classes ((10, 10) ∷ (13, 13) ∷ []) rule.newline refl refl refl (outside_choice s.classes ((10, 10) ∷ []) ((13, 13) ∷ []) false false (outside_set s.classes (one_text s.classes 10)) (outside_text s.classes))))) refl refl refl)) (within s rule.WHITESPACE refl refl refl (either s 1272 1271 1273 refl (at_once s) (one_of s 1 (one_of_two s.classes (one_text s.classes 32) (one_text s.classes 9)) refl refl refl) (tested s 2 (outside_sub s.classes ((10, 10) ∷ (13, 13) ∷ []) rule.newline refl refl refl (outside_choice s.classes ((10, 10) ∷ []) ((13, 13) ∷ []) false false (outside_set s.classes (one_text s.classes 10)) (outside_text s.classes))) refl refl refl) (within s rule.newline refl refl refl (either s 1274 1273 1274 refl (at_once s) (word s 30 refl refl refl) (at_once s) (word s 31 refl refl refl)))))) (between s) (many s 1275 (op.IsOne 3 1275 1252) refl (λ c z. z) (tight_between s) refl (inl (tested s 3 (outside_seq s.classes ((47, 47) ∷ (47, 47) ∷ []) false (outside_sub s.classes ((47, 47) ∷ (47, 47) ∷ []) rule.COMMENT refl refl refl (outside_choice s.classes ((47, 47) ∷ []) ((47, 47) ∷ []) false false (outside_sub s.classes ((47, 47) ∷ []) rule.block_comment refl refl refl (outside_seq s.classes ((47, 47) ∷ []) false (outside_seq s.classes ((47, 47) ∷ []) false (outside_text s.classes)))) (outside_sub s.classes ((47, 47) ∷ []) rule.line_comment refl refl refl (outside_seq s.classes ((47, 47) ∷ []) false (outside_seq s.classes ((47, 47) ∷ []) false (outside_text s.classes))))))) refl refl refl)) (tries s 1276 1278 1278 1277 refl (enters s rule.COMMENT 191 192 at_COMMENT_atomic_apart refl refl refl refl refl) (between s) (many s 1279 (op.IsOne 0 1279 1277) refl (λ c z. z) (tight_between s) refl (inl (tested s 0 (outside_sub s.classes ((32, 32) ∷ (9, 9) ∷ (10, 10) ∷ (13, 13) ∷ []) rule.WHITESPACE refl refl refl (outside_choice s.classes ((32, 32) ∷ (9, 9) ∷ []) ((10, 10) ∷ (13, 13) ∷ []) false false (outside_set s.classes (one_of_two s.classes (one_text s.classes 32) (one_text s.classes 9))) (outside_sub s.classes ((10, 10) ∷ (13, 13) ∷ []) rule.newline refl refl refl (outside_choice s.classes ((10, 10) ∷ []) ((13, 13) ∷ []) false false (outside_set s.classes (one_text s.classes 10)) (outside_text s.classes))))) refl refl refl)) (within s rule.WHITESPACE refl refl refl (either s 1280 1279 1281 refl (at_once s) (one_of s 1 (one_of_two s.classes (one_text s.classes 32) (one_text s.classes 9)) refl refl refl) (tested s 2 (outside_sub s.classes ((10, 10) ∷ (13, 13) ∷ []) rule.newline refl refl refl (outside_choice s.classes ((10, 10) ∷ []) ((13, 13) ∷ []) false false (outside_set s.classes (one_text s.classes 10)) (outside_text s.classes))) refl refl refl) (within s rule.newline refl refl refl (either s 1282 1281 1282 refl (at_once s) (word s 30 refl refl refl) (at_once s) (word s 31 refl refl refl)))))) refl)))) (turns s 1252 1283 1284 1285 1286 refl (at_once s) refl refl (trivia_in_place s (seq 1287 1287 (many s 1288 (op.IsOne 0 1288 1287) refl (λ c z. z) (tight_between s) refl (inl (tested s 0 (outside_sub s.classes ((32, 32) ∷ (9, 9) ∷ (10, 10) ∷ (13, 13) ∷ []) rule.WHITESPACE refl refl refl (outside_choice s.classes ((32, 32) ∷ (9, 9) ∷ []) ((10, 10) ∷ (13, 13) ∷ []) false false (outside_set s.classes (one_of_two s.classes (one_text s.classes 32) (one_text s.classes 9))) (outside_sub s.classes ((10, 10) ∷ (13, 13) ∷ []) rule.newline refl refl refl (outside_choice s.classes ((10, 10) ∷ []) ((13, 13) ∷ []) false false (outside_set s.classes (one_text s.classes 10)) (outside_text s.classes))))) refl refl refl)) (within s rule.WHITESPACE refl refl refl (either s 1289 1288 1290 refl (at_once s) (one_of s 1 (one_of_two s.classes (one_text s.classes 32) (one_text s.classes 9)) refl refl refl) (tested s 2 (outside_sub s.classes ((10, 10) ∷ (13, 13) ∷ []) rule.newline refl refl refl (outside_choice s.classes ((10, 10) ∷ []) ((13, 13) ∷ []) false false (outside_set s.classes (one_text s.classes 10)) (outside_text s.classes))) refl refl refl) (within s rule.newline refl refl refl (either s 1291 1290 1291 refl (at_once s) (word s 30 refl refl refl) (at_once s) (word s 31 refl refl refl)))))) (between s) (many s 1292 (op.IsOne 3 1292 1285) refl (λ c z. z) (tight_between s) refl (inl (tested s 3 (outside_seq s.classes ((47, 47) ∷ (47, 47) ∷ []) false (outside_sub s.classes ((47, 47) ∷ (47, 47) ∷ []) rule.COMMENT refl refl refl (outside_choice s.classes ((47, 47) ∷ []) ((47, 47) ∷ []) false false (outside_sub s.classes ((47, 47) ∷ []) rule.block_comment refl refl refl (outside_seq s.classes ((47, 47) ∷ []) false (outside_seq s.classes ((47, 47) ∷ []) false (outside_text s.classes)))) (outside_sub s.classes ((47, 47) ∷ []) rule.line_comment refl refl refl (outside_seq s.classes ((47, 47) ∷ []) false (outside_seq s.classes ((47, 47) ∷ []) false (outside_text s.classes))))))) refl refl refl)) (tries s 1293 1295 1295 1294 refl (enters s rule.COMMENT 191 192 at_COMMENT_atomic_apart refl refl refl refl refl) (between s) (many s 1296 (op.IsOne 0 1296 1294) refl (λ c z. z) (tight_between s) refl (inl (tested s 0 (outside_sub s.classes ((32, 32) ∷ (9, 9) ∷ (10, 10) ∷ (13, 13) ∷ []) rule.WHITESPACE refl refl refl (outside_choice s.classes ((32, 32) ∷ (9, 9) ∷ []) ((10, 10) ∷ (13, 13) ∷ []) false false (outside_set s.classes (one_of_two s.classes (one_text s.classes 32) (one_text s.classes 9))) (outside_sub s.classes ((10, 10) ∷ (13, 13) ∷ []) rule.newline refl refl refl (outside_choice s.classes ((10, 10) ∷ []) ((13, 13) ∷ []) false false (outside_set s.classes (one_text s.classes 10)) (outside_text s.classes))))) refl refl refl)) (within s rule.WHITESPACE refl refl refl (either s 1297 1296 1298 refl (at_once s) (one_of s 1 (one_of_two s.classes (one_text s.classes 32) (one_text s.classes 9)) refl refl refl) (tested s 2 (outside_sub s.classes ((10, 10) ∷ (13, 13) ∷ []) rule.newline refl refl refl (outside_choice s.classes ((10, 10) ∷ []) ((13, 13) ∷ []) false false (outside_set s.classes (one_text s.classes 10)) (outside_text s.classes))) refl refl refl) (within s rule.newline refl refl refl (either s 1299 1298 1299 refl (at_once s) (word s 30 refl refl refl) (at_once s) (word s 31 refl refl refl)))))) refl)))) (seq 1300 1301 (never s 1302 1303 refl (within s rule.newline refl refl refl (either s 1304 1302 1304 refl (at_once s) (word s 30 refl refl refl) (at_once s) (word s 31 refl refl refl))) refl) (trivia_in_place s (seq 1305 1305 (many s 1306 (op.IsOne 0 1306 1305) refl (λ c z. z) (tight_between s) refl (inl (tested s 0 (outside_sub s.classes ((32, 32) ∷ (9, 9) ∷ (10, 10) ∷ (13, 13) ∷ []) rule.WHITESPACE refl refl refl (outside_choice s.classes ((32, 32) ∷ (9, 9) ∷ []) ((10, 10) ∷ (13, 13) ∷ []) false false (outside_set s.classes (one_of_two s.classes (one_text s.classes 32) (one_text s.classes 9))) (outside_sub s.classes ((10, 10) ∷ (13, 13) ∷ []) rule.newline refl refl refl (outside_choice s.classes ((10, 10) ∷ []) ((13, 13) ∷ []) false false (outside_set s.classes (one_text s.classes 10)) (outside_text s.classes))))) refl refl refl)) (within s rule.WHITESPACE refl refl refl (either s 1307 1306 1308 refl (at_once s) (one_of s 1 (one_of_two s.classes (one_text s.classes 32) (one_text s.classes 9)) refl refl refl) (tested s 2 (outside_sub s.classes ((10, 10) ∷ (13, 13) ∷ []) rule.newline refl refl refl (outside_choice s.classes ((10, 10) ∷ []) ((13, 13) ∷ []) false false (outside_set s.classes (one_text s.classes 10)) (outside_text s.classes))) refl refl refl) (within s rule.newline refl refl refl (either s 1309 1308 1309 refl (at_once s) (word s 30 refl refl refl) (at_once s) (word s 31 refl refl refl)))))) (between s) (many s 1310 (op.IsOne 3 1310 1301) refl (λ c z. z) (tight_between s) refl (inl (tested s 3 (outside_seq s.classes ((47, 47) ∷ (47, 47) ∷ []) false (outside_sub s.classes ((47, 47) ∷ (47, 47) ∷ []) rule.COMMENT refl refl refl (outside_choice s.classes ((47, 47) ∷ []) ((47, 47) ∷ []) false false (outside_sub s.classes ((47, 47) ∷ []) rule.block_comment refl refl refl (outside_seq s.classes ((47, 47) ∷ []) false (outside_seq s.classes ((47, 47) ∷ []) false (outside_text s.classes)))) (outside_sub s.classes ((47, 47) ∷ []) rule.line_comment refl refl refl (outside_seq s.classes ((47, 47) ∷ []) false (outside_seq s.classes ((47, 47) ∷ []) false (outside_text s.classes))))))) refl refl refl)) (tries s 1311 1313 1313 1312 refl (enters s rule.COMMENT 191 192 at_COMMENT_atomic_apart refl refl refl refl refl) (between s) (many s 1314 (op.IsOne 0 1314 1312) refl (λ c z. z) (tight_between s) refl (inl (tested s 0 (outside_sub s.classes ((32, 32) ∷ (9, 9) ∷ (10, 10) ∷ (13, 13) ∷ []) rule.WHITESPACE refl refl refl (outside_choice s.classes ((32, 32) ∷ (9, 9) ∷ []) ((10, 10) ∷ (13, 13) ∷ []) false false (outside_set s.classes (one_of_two s.classes (one_text s.classes 32) (one_text s.classes 9))) (outside_sub s.classes ((10, 10) ∷ (13, 13) ∷ []) rule.newline refl refl refl (outside_choice s.classes ((10, 10) ∷ []) ((13, 13) ∷ []) false false (outside_set s.classes (one_text s.classes 10)) (outside_text s.classes))))) refl refl refl)) (within s rule.WHITESPACE refl refl refl (either s 1315 1314 1316 refl (at_once s) (one_of s 1 (one_of_two s.classes (one_text s.classes 32) (one_text s.classes 9)) refl refl refl) (tested s 2 (outside_sub s.classes ((10, 10) ∷ (13, 13) ∷ []) rule.newline refl refl refl (outside_choice s.classes ((10, 10) ∷ []) ((13, 13) ∷ []) false false (outside_set s.classes (one_text s.classes 10)) (outside_text s.classes))) refl refl refl) (within s rule.newline refl refl refl (either s 1317 1316 1317 refl (at_once s) (word s 30 refl refl refl) (at_once s) (word s 31 refl refl refl)))))) refl)))) (one_of s 55 (one_any s.classes tt) refl refl refl)) refl)
 
   block_comment_plain_apart : Laid s (Run NonAtomicMode (body_of rule.block_comment)) 189 190 0
   unfolding whitespace comment
-  block_comment_plain_apart = seq 1318 1319 (seq 1320 1321 (word s 33 refl refl refl) (gap_in_place s (seq 1322 1322 (many s 1323 (op.IsOne 0 1323 1322) refl (λ c z. z) (tight_between s) refl (inl (tested s 0 (outside_sub s.classes ((32, 32) ∷ (9, 9) ∷ (10, 10) ∷ (13, 13) ∷ []) rule.WHITESPACE refl refl refl (outside_choice s.classes ((32, 32) ∷ (9, 9) ∷ []) ((10, 10) ∷ (13, 13) ∷ []) false false (outside_set s.classes (one_of_two s.classes (one_text s.classes 32) (one_text s.classes 9))) (outside_sub s.classes ((10, 10) ∷ (13, 13) ∷ []) rule.newline refl refl refl (outside_choice s.classes ((10, 10) ∷ []) ((13, 13) ∷ []) false false (outside_set s.classes (one_text s.classes 10)) (outside_text s.classes))))) refl refl refl)) (within s rule.WHITESPACE refl refl refl (either s 1324 1323 1325 refl (at_once s) (one_of s 1 (one_of_two s.classes (one_text s.classes 32) (one_text s.classes 9)) refl refl refl) (tested s 2 (outside_sub s.classes ((10, 10) ∷ (13, 13) ∷ []) rule.newline refl refl refl (outside_choice s.classes ((10, 10) ∷ []) ((13, 13) ∷ []) false false (outside_set s.classes (one_text s.classes 10)) (outside_text s.classes))) refl refl refl) (within s rule.newline refl refl refl (either s 1326 1325 1326 refl (at_once s) (word s 30 refl refl refl) (at_once s) (word s 31 refl refl refl)))))) (between s) (many s 1327 (op.IsOne 3 1327 1321) refl (λ c z. z) (tight_between s) refl (inl (tested s 3 (outside_seq s.classes ((47, 47) ∷ (47, 47) ∷ []) false (outside_sub s.classes ((47, 47) ∷ (47, 47) ∷ []) rule.COMMENT refl refl refl (outside_choice s.classes ((47, 47) ∷ []) ((47, 47) ∷ []) false false (outside_sub s.classes ((47, 47) ∷ []) rule.block_comment refl refl refl (outside_seq s.classes ((47, 47) ∷ []) false (outside_seq s.classes ((47, 47) ∷ []) false (outside_text s.classes)))) (outside_sub s.classes ((47, 47) ∷ []) rule.line_comment refl refl refl (outside_seq s.classes ((47, 47) ∷ []) false (outside_seq s.classes ((47, 47) ∷ []) false (outside_text s.classes))))))) refl refl refl)) (tries s 1328 1330 1330 1329 refl (enters s rule.COMMENT 191 192 at_COMMENT_atomic_apart refl refl refl refl refl) (between s) (many s 1331 (op.IsOne 0 1331 1329) refl (λ c z. z) (tight_between s) refl (inl (tested s 0 (outside_sub s.classes ((32, 32) ∷ (9, 9) ∷ (10, 10) ∷ (13, 13) ∷ []) rule.WHITESPACE refl refl refl (outside_choice s.classes ((32, 32) ∷ (9, 9) ∷ []) ((10, 10) ∷ (13, 13) ∷ []) false false (outside_set s.classes (one_of_two s.classes (one_text s.classes 32) (one_text s.classes 9))) (outside_sub s.classes ((10, 10) ∷ (13, 13) ∷ []) rule.newline refl refl refl (outside_choice s.classes ((10, 10) ∷ []) ((13, 13) ∷ []) false false (outside_set s.classes (one_text s.classes 10)) (outside_text s.classes))))) refl refl refl)) (within s rule.WHITESPACE refl refl refl (either s 1332 1331 1333 refl (at_once s) (one_of s 1 (one_of_two s.classes (one_text s.classes 32) (one_text s.classes 9)) refl refl refl) (tested s 2 (outside_sub s.classes ((10, 10) ∷ (13, 13) ∷ []) rule.newline refl refl refl (outside_choice s.classes ((10, 10) ∷ []) ((13, 13) ∷ []) false false (outside_set s.classes (one_text s.classes 10)) (outside_text s.classes))) refl refl refl) (within s rule.newline refl refl refl (either s 1334 1333 1334 refl (at_once s) (word s 30 refl refl refl) (at_once s) (word s 31 refl refl refl)))))) refl)))) (turns s 1321 1335 1336 1337 1338 refl (at_once s) refl refl (gap_in_place s (seq 1339 1339 (many s 1340 (op.IsOne 0 1340 1339) refl (λ c z. z) (tight_between s) refl (inl (tested s 0 (outside_sub s.classes ((32, 32) ∷ (9, 9) ∷ (10, 10) ∷ (13, 13) ∷ []) rule.WHITESPACE refl refl refl (outside_choice s.classes ((32, 32) ∷ (9, 9) ∷ []) ((10, 10) ∷ (13, 13) ∷ []) false false (outside_set s.classes (one_of_two s.classes (one_text s.classes 32) (one_text s.classes 9))) (outside_sub s.classes ((10, 10) ∷ (13, 13) ∷ []) rule.newline refl refl refl (outside_choice s.classes ((10, 10) ∷ []) ((13, 13) ∷ []) false false (outside_set s.classes (one_text s.classes 10)) (outside_text s.classes))))) refl refl refl)) (within s rule.WHITESPACE refl refl refl (either s 1341 1340 1342 refl (at_once s) (one_of s 1 (one_of_two s.classes (one_text s.classes 32) (one_text s.classes 9)) refl refl refl) (tested s 2 (outside_sub s.classes ((10, 10) ∷ (13, 13) ∷ []) rule.newline refl refl refl (outside_choice s.classes ((10, 10) ∷ []) ((13, 13) ∷ []) false false (outside_set s.classes (one_text s.classes 10)) (outside_text s.classes))) refl refl refl) (within s rule.newline refl refl refl (either s 1343 1342 1343 refl (at_once s) (word s 30 refl refl refl) (at_once s) (word s 31 refl refl refl)))))) (between s) (many s 1344 (op.IsOne 3 1344 1337) refl (λ c z. z) (tight_between s) refl (inl (tested s 3 (outside_seq s.classes ((47, 47) ∷ (47, 47) ∷ []) false (outside_sub s.classes ((47, 47) ∷ (47, 47) ∷ []) rule.COMMENT refl refl refl (outside_choice s.classes ((47, 47) ∷ []) ((47, 47) ∷ []) false false (outside_sub s.classes ((47, 47) ∷ []) rule.block_comment refl refl refl (outside_seq s.classes ((47, 47) ∷ []) false (outside_seq s.classes ((47, 47) ∷ []) false (outside_text s.classes)))) (outside_sub s.classes ((47, 47) ∷ []) rule.line_comment refl refl refl (outside_seq s.classes ((47, 47) ∷ []) false (outside_seq s.classes ((47, 47) ∷ []) false (outside_text s.classes))))))) refl refl refl)) (tries s 1345 1347 1347 1346 refl (enters s rule.COMMENT 191 192 at_COMMENT_atomic_apart refl refl refl refl refl) (between s) (many s 1348 (op.IsOne 0 1348 1346) refl (λ c z. z) (tight_between s) refl (inl (tested s 0 (outside_sub s.classes ((32, 32) ∷ (9, 9) ∷ (10, 10) ∷ (13, 13) ∷ []) rule.WHITESPACE refl refl refl (outside_choice s.classes ((32, 32) ∷ (9, 9) ∷ []) ((10, 10) ∷ (13, 13) ∷ []) false false (outside_set s.classes (one_of_two s.classes (one_text s.classes 32) (one_text s.classes 9))) (outside_sub s.classes ((10, 10) ∷ (13, 13) ∷ []) rule.newline refl refl refl (outside_choice s.classes ((10, 10) ∷ []) ((13, 13) ∷ []) false false (outside_set s.classes (one_text s.classes 10)) (outside_text s.classes))))) refl refl refl)) (within s rule.WHITESPACE refl refl refl (either s 1349 1348 1350 refl (at_once s) (one_of s 1 (one_of_two s.classes (one_text s.classes 32) (one_text s.classes 9)) refl refl refl) (tested s 2 (outside_sub s.classes ((10, 10) ∷ (13, 13) ∷ []) rule.newline refl refl refl (outside_choice s.classes ((10, 10) ∷ []) ((13, 13) ∷ []) false false (outside_set s.classes (one_text s.classes 10)) (outside_text s.classes))) refl refl refl) (within s rule.newline refl refl refl (either s 1351 1350 1351 refl (at_once s) (word s 30 refl refl refl) (at_once s) (word s 31 refl refl refl)))))) refl)))) (either s 1352 1353 1352 refl (tested s 4 (outside_sub s.classes ((47, 47) ∷ []) rule.block_comment refl refl refl (outside_seq s.classes ((47, 47) ∷ []) false (outside_seq s.classes ((47, 47) ∷ []) false (outside_text s.classes)))) refl refl refl) (enters s rule.block_comment 189 190 at_block_comment_plain_apart refl refl refl refl refl) (at_once s) (seq 1354 1355 (never s 1356 1357 refl (word s 34 refl refl refl) refl) (gap_in_place s (seq 1358 1358 (many s 1359 (op.IsOne 0 1359 1358) refl (λ c z. z) (tight_between s) refl (inl (tested s 0 (outside_sub s.classes ((32, 32) ∷ (9, 9) ∷ (10, 10) ∷ (13, 13) ∷ []) rule.WHITESPACE refl refl refl (outside_choice s.classes ((32, 32) ∷ (9, 9) ∷ []) ((10, 10) ∷ (13, 13) ∷ []) false false (outside_set s.classes (one_of_two s.classes (one_text s.classes 32) (one_text s.classes 9))) (outside_sub s.classes ((10, 10) ∷ (13, 13) ∷ []) rule.newline refl refl refl (outside_choice s.classes ((10, 10) ∷ []) ((13, 13) ∷ []) false false (outside_set s.classes (one_text s.classes 10)) (outside_text s.classes))))) refl refl refl)) (within s rule.WHITESPACE refl refl refl (either s 1360 1359 1361 refl (at_once s) (one_of s 1 (one_of_two s.classes (one_text s.classes 32) (one_text s.classes 9)) refl refl refl) (tested s 2 (outside_sub s.classes ((10, 10) ∷ (13, 13) ∷ []) rule.newline refl refl refl (outside_choice s.classes ((10, 10) ∷ []) ((13, 13) ∷ []) false false (outside_set s.classes (one_text s.classes 10)) (outside_text s.classes))) refl refl refl) (within s rule.newline refl refl refl (either s 1362 1361 1362 refl (at_once s) (word s 30 refl refl refl) (at_once s) (word s 31 refl refl refl)))))) (between s) (many s 1363 (op.IsOne 3 1363 1355) refl (λ c z. z) (tight_between s) refl (inl (tested s 3 (outside_seq s.classes ((47, 47) ∷ (47, 47) ∷ []) false (outside_sub s.classes ((47, 47) ∷ (47, 47) ∷ []) rule.COMMENT refl refl refl (outside_choice s.classes ((47, 47) ∷ []) ((47, 47) ∷ []) false false (outside_sub s.classes ((47, 47) ∷ []) rule.block_comment refl refl refl (outside_seq s.classes ((47, 47) ∷ []) false (outside_seq s.classes ((47, 47) ∷ []) false (outside_text s.classes)))) (outside_sub s.classes ((47, 47) ∷ []) rule.line_comment refl refl refl (outside_seq s.classes ((47, 47) ∷ []) false (outside_seq s.classes ((47, 47) ∷ []) false (outside_text s.classes))))))) refl refl refl)) (tries s 1364 1366 1366 1365 refl (enters s rule.COMMENT 191 192 at_COMMENT_atomic_apart refl refl refl refl refl) (between s) (many s 1367 (op.IsOne 0 1367 1365) refl (λ c z. z) (tight_between s) refl (inl (tested s 0 (outside_sub s.classes ((32, 32) ∷ (9, 9) ∷ (10, 10) ∷ (13, 13) ∷ []) rule.WHITESPACE refl refl refl (outside_choice s.classes ((32, 32) ∷ (9, 9) ∷ []) ((10, 10) ∷ (13, 13) ∷ []) false false (outside_set s.classes (one_of_two s.classes (one_text s.classes 32) (one_text s.classes 9))) (outside_sub s.classes ((10, 10) ∷ (13, 13) ∷ []) rule.newline refl refl refl (outside_choice s.classes ((10, 10) ∷ []) ((13, 13) ∷ []) false false (outside_set s.classes (one_text s.classes 10)) (outside_text s.classes))))) refl refl refl)) (within s rule.WHITESPACE refl refl refl (either s 1368 1367 1369 refl (at_once s) (one_of s 1 (one_of_two s.classes (one_text s.classes 32) (one_text s.classes 9)) refl refl refl) (tested s 2 (outside_sub s.classes ((10, 10) ∷ (13, 13) ∷ []) rule.newline refl refl refl (outside_choice s.classes ((10, 10) ∷ []) ((13, 13) ∷ []) false false (outside_set s.classes (one_text s.classes 10)) (outside_text s.classes))) refl refl refl) (within s rule.newline refl refl refl (either s 1370 1369 1370 refl (at_once s) (word s 30 refl refl refl) (at_once s) (word s 31 refl refl refl)))))) refl)))) (one_of s 55 (one_any s.classes tt) refl refl refl))) refl)) (gap_in_place s (seq 1371 1371 (many s 1372 (op.IsOne 0 1372 1371) refl (λ c z. z) (tight_between s) refl (inl (tested s 0 (outside_sub s.classes ((32, 32) ∷ (9, 9) ∷ (10, 10) ∷ (13, 13) ∷ []) rule.WHITESPACE refl refl refl (outside_choice s.classes ((32, 32) ∷ (9, 9) ∷ []) ((10, 10) ∷ (13, 13) ∷ []) false false (outside_set s.classes (one_of_two s.classes (one_text s.classes 32) (one_text s.classes 9))) (outside_sub s.classes ((10, 10) ∷ (13, 13) ∷ []) rule.newline refl refl refl (outside_choice s.classes ((10, 10) ∷ []) ((13, 13) ∷ []) false false (outside_set s.classes (one_text s.classes 10)) (outside_text s.classes))))) refl refl refl)) (within s rule.WHITESPACE refl refl refl (either s 1373 1372 1374 refl (at_once s) (one_of s 1 (one_of_two s.classes (one_text s.classes 32) (one_text s.classes 9)) refl refl refl) (tested s 2 (outside_sub s.classes ((10, 10) ∷ (13, 13) ∷ []) rule.newline refl refl refl (outside_choice s.classes ((10, 10) ∷ []) ((13, 13) ∷ []) false false (outside_set s.classes (one_text s.classes 10)) (outside_text s.classes))) refl refl refl) (within s rule.newline refl refl refl (either s 1375 1374 1375 refl (at_once s) (word s 30 refl refl refl) (at_once s) (word s 31 refl refl refl)))))) (between s) (many s 1376 (op.IsOne 3 1376 1319) refl (λ c z. z) (tight_between s) refl (inl (tested s 3 (outside_seq s.classes ((47, 47) ∷ (47, 47) ∷ []) false (outside_sub s.classes ((47, 47) ∷ (47, 47) ∷ []) rule.COMMENT refl refl refl (outside_choice s.classes ((47, 47) ∷ []) ((47, 47) ∷ []) false false (outside_sub s.classes ((47, 47) ∷ []) rule.block_comment refl refl refl (outside_seq s.classes ((47, 47) ∷ []) false (outside_seq s.classes ((47, 47) ∷ []) false (outside_text s.classes)))) (outside_sub s.classes ((47, 47) ∷ []) rule.line_comment refl refl refl (outside_seq s.classes ((47, 47) ∷ []) false (outside_seq s.classes ((47, 47) ∷ []) false (outside_text s.classes))))))) refl refl refl)) (tries s 1377 1379 1379 1378 refl (enters s rule.COMMENT 191 192 at_COMMENT_atomic_apart refl refl refl refl refl) (between s) (many s 1380 (op.IsOne 0 1380 1378) refl (λ c z. z) (tight_between s) refl (inl (tested s 0 (outside_sub s.classes ((32, 32) ∷ (9, 9) ∷ (10, 10) ∷ (13, 13) ∷ []) rule.WHITESPACE refl refl refl (outside_choice s.classes ((32, 32) ∷ (9, 9) ∷ []) ((10, 10) ∷ (13, 13) ∷ []) false false (outside_set s.classes (one_of_two s.classes (one_text s.classes 32) (one_text s.classes 9))) (outside_sub s.classes ((10, 10) ∷ (13, 13) ∷ []) rule.newline refl refl refl (outside_choice s.classes ((10, 10) ∷ []) ((13, 13) ∷ []) false false (outside_set s.classes (one_text s.classes 10)) (outside_text s.classes))))) refl refl refl)) (within s rule.WHITESPACE refl refl refl (either s 1381 1380 1382 refl (at_once s) (one_of s 1 (one_of_two s.classes (one_text s.classes 32) (one_text s.classes 9)) refl refl refl) (tested s 2 (outside_sub s.classes ((10, 10) ∷ (13, 13) ∷ []) rule.newline refl refl refl (outside_choice s.classes ((10, 10) ∷ []) ((13, 13) ∷ []) false false (outside_set s.classes (one_text s.classes 10)) (outside_text s.classes))) refl refl refl) (within s rule.newline refl refl refl (either s 1383 1382 1383 refl (at_once s) (word s 30 refl refl refl) (at_once s) (word s 31 refl refl refl)))))) refl)))) (word s 34 refl refl refl)
+  block_comment_plain_apart = seq 1318 1319 (seq 1320 1321 (word s 33 refl refl refl) (trivia_in_place s (seq 1322 1322 (many s 1323 (op.IsOne 0 1323 1322) refl (λ c z. z) (tight_between s) refl (inl (tested s 0 (outside_sub s.classes ((32, 32) ∷ (9, 9) ∷ (10, 10) ∷ (13, 13) ∷ []) rule.WHITESPACE refl refl refl (outside_choice s.classes ((32, 32) ∷ (9, 9) ∷ []) ((10, 10) ∷ (13, 13) ∷ []) false false (outside_set s.classes (one_of_two s.classes (one_text s.classes 32) (one_text s.classes 9))) (outside_sub s.classes ((10, 10) ∷ (13, 13) ∷ []) rule.newline refl refl refl (outside_choice s.classes ((10, 10) ∷ []) ((13, 13) ∷ []) false false (outside_set s.classes (one_text s.classes 10)) (outside_text s.classes))))) refl refl refl)) (within s rule.WHITESPACE refl refl refl (either s 1324 1323 1325 refl (at_once s) (one_of s 1 (one_of_two s.classes (one_text s.classes 32) (one_text s.classes 9)) refl refl refl) (tested s 2 (outside_sub s.classes ((10, 10) ∷ (13, 13) ∷ []) rule.newline refl refl refl (outside_choice s.classes ((10, 10) ∷ []) ((13, 13) ∷ []) false false (outside_set s.classes (one_text s.classes 10)) (outside_text s.classes))) refl refl refl) (within s rule.newline refl refl refl (either s 1326 1325 1326 refl (at_once s) (word s 30 refl refl refl) (at_once s) (word s 31 refl refl refl)))))) (between s) (many s 1327 (op.IsOne 3 1327 1321) refl (λ c z. z) (tight_between s) refl (inl (tested s 3 (outside_seq s.classes ((47, 47) ∷ (47, 47) ∷ []) false (outside_sub s.classes ((47, 47) ∷ (47, 47) ∷ []) rule.COMMENT refl refl refl (outside_choice s.classes ((47, 47) ∷ []) ((47, 47) ∷ []) false false (outside_sub s.classes ((47, 47) ∷ []) rule.block_comment refl refl refl (outside_seq s.classes ((47, 47) ∷ []) false (outside_seq s.classes ((47, 47) ∷ []) false (outside_text s.classes)))) (outside_sub s.classes ((47, 47) ∷ []) rule.line_comment refl refl refl (outside_seq s.classes ((47, 47) ∷ []) false (outside_seq s.classes ((47, 47) ∷ []) false (outside_text s.classes))))))) refl refl refl)) (tries s 1328 1330 1330 1329 refl (enters s rule.COMMENT 191 192 at_COMMENT_atomic_apart refl refl refl refl refl) (between s) (many s 1331 (op.IsOne 0 1331 1329) refl (λ c z. z) (tight_between s) refl (inl (tested s 0 (outside_sub s.classes ((32, 32) ∷ (9, 9) ∷ (10, 10) ∷ (13, 13) ∷ []) rule.WHITESPACE refl refl refl (outside_choice s.classes ((32, 32) ∷ (9, 9) ∷ []) ((10, 10) ∷ (13, 13) ∷ []) false false (outside_set s.classes (one_of_two s.classes (one_text s.classes 32) (one_text s.classes 9))) (outside_sub s.classes ((10, 10) ∷ (13, 13) ∷ []) rule.newline refl refl refl (outside_choice s.classes ((10, 10) ∷ []) ((13, 13) ∷ []) false false (outside_set s.classes (one_text s.classes 10)) (outside_text s.classes))))) refl refl refl)) (within s rule.WHITESPACE refl refl refl (either s 1332 1331 1333 refl (at_once s) (one_of s 1 (one_of_two s.classes (one_text s.classes 32) (one_text s.classes 9)) refl refl refl) (tested s 2 (outside_sub s.classes ((10, 10) ∷ (13, 13) ∷ []) rule.newline refl refl refl (outside_choice s.classes ((10, 10) ∷ []) ((13, 13) ∷ []) false false (outside_set s.classes (one_text s.classes 10)) (outside_text s.classes))) refl refl refl) (within s rule.newline refl refl refl (either s 1334 1333 1334 refl (at_once s) (word s 30 refl refl refl) (at_once s) (word s 31 refl refl refl)))))) refl)))) (turns s 1321 1335 1336 1337 1338 refl (at_once s) refl refl (trivia_in_place s (seq 1339 1339 (many s 1340 (op.IsOne 0 1340 1339) refl (λ c z. z) (tight_between s) refl (inl (tested s 0 (outside_sub s.classes ((32, 32) ∷ (9, 9) ∷ (10, 10) ∷ (13, 13) ∷ []) rule.WHITESPACE refl refl refl (outside_choice s.classes ((32, 32) ∷ (9, 9) ∷ []) ((10, 10) ∷ (13, 13) ∷ []) false false (outside_set s.classes (one_of_two s.classes (one_text s.classes 32) (one_text s.classes 9))) (outside_sub s.classes ((10, 10) ∷ (13, 13) ∷ []) rule.newline refl refl refl (outside_choice s.classes ((10, 10) ∷ []) ((13, 13) ∷ []) false false (outside_set s.classes (one_text s.classes 10)) (outside_text s.classes))))) refl refl refl)) (within s rule.WHITESPACE refl refl refl (either s 1341 1340 1342 refl (at_once s) (one_of s 1 (one_of_two s.classes (one_text s.classes 32) (one_text s.classes 9)) refl refl refl) (tested s 2 (outside_sub s.classes ((10, 10) ∷ (13, 13) ∷ []) rule.newline refl refl refl (outside_choice s.classes ((10, 10) ∷ []) ((13, 13) ∷ []) false false (outside_set s.classes (one_text s.classes 10)) (outside_text s.classes))) refl refl refl) (within s rule.newline refl refl refl (either s 1343 1342 1343 refl (at_once s) (word s 30 refl refl refl) (at_once s) (word s 31 refl refl refl)))))) (between s) (many s 1344 (op.IsOne 3 1344 1337) refl (λ c z. z) (tight_between s) refl (inl (tested s 3 (outside_seq s.classes ((47, 47) ∷ (47, 47) ∷ []) false (outside_sub s.classes ((47, 47) ∷ (47, 47) ∷ []) rule.COMMENT refl refl refl (outside_choice s.classes ((47, 47) ∷ []) ((47, 47) ∷ []) false false (outside_sub s.classes ((47, 47) ∷ []) rule.block_comment refl refl refl (outside_seq s.classes ((47, 47) ∷ []) false (outside_seq s.classes ((47, 47) ∷ []) false (outside_text s.classes)))) (outside_sub s.classes ((47, 47) ∷ []) rule.line_comment refl refl refl (outside_seq s.classes ((47, 47) ∷ []) false (outside_seq s.classes ((47, 47) ∷ []) false (outside_text s.classes))))))) refl refl refl)) (tries s 1345 1347 1347 1346 refl (enters s rule.COMMENT 191 192 at_COMMENT_atomic_apart refl refl refl refl refl) (between s) (many s 1348 (op.IsOne 0 1348 1346) refl (λ c z. z) (tight_between s) refl (inl (tested s 0 (outside_sub s.classes ((32, 32) ∷ (9, 9) ∷ (10, 10) ∷ (13, 13) ∷ []) rule.WHITESPACE refl refl refl (outside_choice s.classes ((32, 32) ∷ (9, 9) ∷ []) ((10, 10) ∷ (13, 13) ∷ []) false false (outside_set s.classes (one_of_two s.classes (one_text s.classes 32) (one_text s.classes 9))) (outside_sub s.classes ((10, 10) ∷ (13, 13) ∷ []) rule.newline refl refl refl (outside_choice s.classes ((10, 10) ∷ []) ((13, 13) ∷ []) false false (outside_set s.classes (one_text s.classes 10)) (outside_text s.classes))))) refl refl refl)) (within s rule.WHITESPACE refl refl refl (either s 1349 1348 1350 refl (at_once s) (one_of s 1 (one_of_two s.classes (one_text s.classes 32) (one_text s.classes 9)) refl refl refl) (tested s 2 (outside_sub s.classes ((10, 10) ∷ (13, 13) ∷ []) rule.newline refl refl refl (outside_choice s.classes ((10, 10) ∷ []) ((13, 13) ∷ []) false false (outside_set s.classes (one_text s.classes 10)) (outside_text s.classes))) refl refl refl) (within s rule.newline refl refl refl (either s 1351 1350 1351 refl (at_once s) (word s 30 refl refl refl) (at_once s) (word s 31 refl refl refl)))))) refl)))) (either s 1352 1353 1352 refl (tested s 4 (outside_sub s.classes ((47, 47) ∷ []) rule.block_comment refl refl refl (outside_seq s.classes ((47, 47) ∷ []) false (outside_seq s.classes ((47, 47) ∷ []) false (outside_text s.classes)))) refl refl refl) (enters s rule.block_comment 189 190 at_block_comment_plain_apart refl refl refl refl refl) (at_once s) (seq 1354 1355 (never s 1356 1357 refl (word s 34 refl refl refl) refl) (trivia_in_place s (seq 1358 1358 (many s 1359 (op.IsOne 0 1359 1358) refl (λ c z. z) (tight_between s) refl (inl (tested s 0 (outside_sub s.classes ((32, 32) ∷ (9, 9) ∷ (10, 10) ∷ (13, 13) ∷ []) rule.WHITESPACE refl refl refl (outside_choice s.classes ((32, 32) ∷ (9, 9) ∷ []) ((10, 10) ∷ (13, 13) ∷ []) false false (outside_set s.classes (one_of_two s.classes (one_text s.classes 32) (one_text s.classes 9))) (outside_sub s.classes ((10, 10) ∷ (13, 13) ∷ []) rule.newline refl refl refl (outside_choice s.classes ((10, 10) ∷ []) ((13, 13) ∷ []) false false (outside_set s.classes (one_text s.classes 10)) (outside_text s.classes))))) refl refl refl)) (within s rule.WHITESPACE refl refl refl (either s 1360 1359 1361 refl (at_once s) (one_of s 1 (one_of_two s.classes (one_text s.classes 32) (one_text s.classes 9)) refl refl refl) (tested s 2 (outside_sub s.classes ((10, 10) ∷ (13, 13) ∷ []) rule.newline refl refl refl (outside_choice s.classes ((10, 10) ∷ []) ((13, 13) ∷ []) false false (outside_set s.classes (one_text s.classes 10)) (outside_text s.classes))) refl refl refl) (within s rule.newline refl refl refl (either s 1362 1361 1362 refl (at_once s) (word s 30 refl refl refl) (at_once s) (word s 31 refl refl refl)))))) (between s) (many s 1363 (op.IsOne 3 1363 1355) refl (λ c z. z) (tight_between s) refl (inl (tested s 3 (outside_seq s.classes ((47, 47) ∷ (47, 47) ∷ []) false (outside_sub s.classes ((47, 47) ∷ (47, 47) ∷ []) rule.COMMENT refl refl refl (outside_choice s.classes ((47, 47) ∷ []) ((47, 47) ∷ []) false false (outside_sub s.classes ((47, 47) ∷ []) rule.block_comment refl refl refl (outside_seq s.classes ((47, 47) ∷ []) false (outside_seq s.classes ((47, 47) ∷ []) false (outside_text s.classes)))) (outside_sub s.classes ((47, 47) ∷ []) rule.line_comment refl refl refl (outside_seq s.classes ((47, 47) ∷ []) false (outside_seq s.classes ((47, 47) ∷ []) false (outside_text s.classes))))))) refl refl refl)) (tries s 1364 1366 1366 1365 refl (enters s rule.COMMENT 191 192 at_COMMENT_atomic_apart refl refl refl refl refl) (between s) (many s 1367 (op.IsOne 0 1367 1365) refl (λ c z. z) (tight_between s) refl (inl (tested s 0 (outside_sub s.classes ((32, 32) ∷ (9, 9) ∷ (10, 10) ∷ (13, 13) ∷ []) rule.WHITESPACE refl refl refl (outside_choice s.classes ((32, 32) ∷ (9, 9) ∷ []) ((10, 10) ∷ (13, 13) ∷ []) false false (outside_set s.classes (one_of_two s.classes (one_text s.classes 32) (one_text s.classes 9))) (outside_sub s.classes ((10, 10) ∷ (13, 13) ∷ []) rule.newline refl refl refl (outside_choice s.classes ((10, 10) ∷ []) ((13, 13) ∷ []) false false (outside_set s.classes (one_text s.classes 10)) (outside_text s.classes))))) refl refl refl)) (within s rule.WHITESPACE refl refl refl (either s 1368 1367 1369 refl (at_once s) (one_of s 1 (one_of_two s.classes (one_text s.classes 32) (one_text s.classes 9)) refl refl refl) (tested s 2 (outside_sub s.classes ((10, 10) ∷ (13, 13) ∷ []) rule.newline refl refl refl (outside_choice s.classes ((10, 10) ∷ []) ((13, 13) ∷ []) false false (outside_set s.classes (one_text s.classes 10)) (outside_text s.classes))) refl refl refl) (within s rule.newline refl refl refl (either s 1370 1369 1370 refl (at_once s) (word s 30 refl refl refl) (at_once s) (word s 31 refl refl refl)))))) refl)))) (one_of s 55 (one_any s.classes tt) refl refl refl))) refl)) (trivia_in_place s (seq 1371 1371 (many s 1372 (op.IsOne 0 1372 1371) refl (λ c z. z) (tight_between s) refl (inl (tested s 0 (outside_sub s.classes ((32, 32) ∷ (9, 9) ∷ (10, 10) ∷ (13, 13) ∷ []) rule.WHITESPACE refl refl refl (outside_choice s.classes ((32, 32) ∷ (9, 9) ∷ []) ((10, 10) ∷ (13, 13) ∷ []) false false (outside_set s.classes (one_of_two s.classes (one_text s.classes 32) (one_text s.classes 9))) (outside_sub s.classes ((10, 10) ∷ (13, 13) ∷ []) rule.newline refl refl refl (outside_choice s.classes ((10, 10) ∷ []) ((13, 13) ∷ []) false false (outside_set s.classes (one_text s.classes 10)) (outside_text s.classes))))) refl refl refl)) (within s rule.WHITESPACE refl refl refl (either s 1373 1372 1374 refl (at_once s) (one_of s 1 (one_of_two s.classes (one_text s.classes 32) (one_text s.classes 9)) refl refl refl) (tested s 2 (outside_sub s.classes ((10, 10) ∷ (13, 13) ∷ []) rule.newline refl refl refl (outside_choice s.classes ((10, 10) ∷ []) ((13, 13) ∷ []) false false (outside_set s.classes (one_text s.classes 10)) (outside_text s.classes))) refl refl refl) (within s rule.newline refl refl refl (either s 1375 1374 1375 refl (at_once s) (word s 30 refl refl refl) (at_once s) (word s 31 refl refl refl)))))) (between s) (many s 1376 (op.IsOne 3 1376 1319) refl (λ c z. z) (tight_between s) refl (inl (tested s 3 (outside_seq s.classes ((47, 47) ∷ (47, 47) ∷ []) false (outside_sub s.classes ((47, 47) ∷ (47, 47) ∷ []) rule.COMMENT refl refl refl (outside_choice s.classes ((47, 47) ∷ []) ((47, 47) ∷ []) false false (outside_sub s.classes ((47, 47) ∷ []) rule.block_comment refl refl refl (outside_seq s.classes ((47, 47) ∷ []) false (outside_seq s.classes ((47, 47) ∷ []) false (outside_text s.classes)))) (outside_sub s.classes ((47, 47) ∷ []) rule.line_comment refl refl refl (outside_seq s.classes ((47, 47) ∷ []) false (outside_seq s.classes ((47, 47) ∷ []) false (outside_text s.classes))))))) refl refl refl)) (tries s 1377 1379 1379 1378 refl (enters s rule.COMMENT 191 192 at_COMMENT_atomic_apart refl refl refl refl refl) (between s) (many s 1380 (op.IsOne 0 1380 1378) refl (λ c z. z) (tight_between s) refl (inl (tested s 0 (outside_sub s.classes ((32, 32) ∷ (9, 9) ∷ (10, 10) ∷ (13, 13) ∷ []) rule.WHITESPACE refl refl refl (outside_choice s.classes ((32, 32) ∷ (9, 9) ∷ []) ((10, 10) ∷ (13, 13) ∷ []) false false (outside_set s.classes (one_of_two s.classes (one_text s.classes 32) (one_text s.classes 9))) (outside_sub s.classes ((10, 10) ∷ (13, 13) ∷ []) rule.newline refl refl refl (outside_choice s.classes ((10, 10) ∷ []) ((13, 13) ∷ []) false false (outside_set s.classes (one_text s.classes 10)) (outside_text s.classes))))) refl refl refl)) (within s rule.WHITESPACE refl refl refl (either s 1381 1380 1382 refl (at_once s) (one_of s 1 (one_of_two s.classes (one_text s.classes 32) (one_text s.classes 9)) refl refl refl) (tested s 2 (outside_sub s.classes ((10, 10) ∷ (13, 13) ∷ []) rule.newline refl refl refl (outside_choice s.classes ((10, 10) ∷ []) ((13, 13) ∷ []) false false (outside_set s.classes (one_text s.classes 10)) (outside_text s.classes))) refl refl refl) (within s rule.newline refl refl refl (either s 1383 1382 1383 refl (at_once s) (word s 30 refl refl refl) (at_once s) (word s 31 refl refl refl)))))) refl)))) (word s 34 refl refl refl)
 
   COMMENT_atomic_apart : Laid s (Run AtomicMode (body_of rule.COMMENT)) 191 192 0
   unfolding whitespace comment

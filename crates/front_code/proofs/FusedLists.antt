@@ -5,14 +5,14 @@ use Rattle.matcher_code.specs.declared.code.Op.{Op}
 use Rattle.matcher_code.specs.declared.code.Op.TheVariants as op
 use Rattle.matcher_code.specs.declared.fused.Fused.{Fused}
 use Rattle.matcher_code.specs.declared.fused.Fused.TheVariants as fused
-use Rattle.matcher_code.specs.Fused.{CanRun, HasByte, HasRow, IsFusedAt, IsFusionOf, TakesByte, apply_fused}
+use Rattle.matcher_code.specs.Fused.{CanRun, HasByte, HasByteSet, IsFusedAt, IsFusionOf, TakesByte, apply_fused}
 use Rattle.matcher_code.specs.Reading.{text_of}
 use Rattle.matcher_code.specs.Sets.{flag_of}
 use Rattle.matcher_code.specs.Steps.{Config, apply_op, op_at}
 use Rattle.matcher_code.proofs.Fusing.{all_return, byte_all, byte_return, call_call, one_all, one_takes, plain, renewed, step_at, tests_byte, text_takes}
 use Rattle.front_code.specs.Codes.{fast_ops, fast_sets, texts}
 use Rattle.front_code.specs.declared.constants.TheConstants.{FAST_FUSED}
-use Rattle.front_code.proofs.ByteLemmas.{exact_lists, fast_lists, fast_tables, has_rows, long_rows, right_fast_rows, row_at}
+use Rattle.front_code.proofs.ByteLemmas.{exact_lists, fast_lists, fast_tables, has_byte_sets, long_byte_sets, right_fast_byte_sets, byte_set_at}
 use Rattle.front_code.proofs.TestTables.{are_tests, by_kind, checks, counted, entries, has_entries, kind_of}
 
 -- an operation that is fused with no other
@@ -24,7 +24,7 @@ alone code pc f o r same h = record { can = r; same = λ text c e. (0, same text
 one_flag : (byte b : ℕ) → byte < 128 → b < 128 → flag_of ((byte, byte) ∷ []) b ≡ (if b == byte then 1 else 0)
 one_flag byte b h k = grind (arith, h, k)
 
-module _ (code : CodeLists) (os : List Op) (rs : List (List (ℕ × ℕ))) (ts : List (List ℕ)) (tbs : List ℕ) (ops : code.ops ≡ os) (rows : has_rows rs code.rows ≡ true) (same : code.texts ≡ ts) (tables : code.tables ≡ tbs) where
+module _ (code : CodeLists) (os : List Op) (rs : List (List (ℕ × ℕ))) (ts : List (List ℕ)) (tbs : List ℕ) (ops : code.ops ≡ os) (byte_sets : has_byte_sets rs code.byte_sets ≡ true) (same : code.texts ≡ ts) (tables : code.tables ≡ tbs) where
   -- a fused operation of a label
   abbrev Fuses : ℕ → Type 0
   Fuses pc = (f : Fused) × IsFusedAt code pc f
@@ -32,21 +32,21 @@ module _ (code : CodeLists) (os : List Op) (rs : List (List (ℕ × ℕ))) (ts :
   at : (pc : ℕ) (o : Op) → get_or os pc op.Lose ≡ o → op_at code [] pc ≡ o
   at pc o e = ap (λ l. get_or l pc op.Lose) ops ∙ e
 
-  has_row : (set : ℕ) → set < length rs → HasRow code set
-  has_row set l = omega (arith, l, long_rows rs code.rows rows)
+  has_byte_set : (set : ℕ) → set < length rs → HasByteSet code set
+  has_byte_set set l = omega (arith, l, long_byte_sets rs code.byte_sets byte_sets)
 
   has_byte : (set byte : ℕ) → get_or rs set [] ≡ (byte, byte) ∷ [] → set < length rs → byte < 128 → HasByte code set byte
   has_byte set byte e l k = record {
     ascii = k;
-    flags = λ b m. row_at rs code.rows rows set l b (omega (arith, m)) ∙ (ap (λ r. flag_of r b) e ∙ one_flag byte b k m);
+    flags = λ b m. byte_set_at rs code.byte_sets byte_sets set l b (omega (arith, m)) ∙ (ap (λ r. flag_of r b) e ∙ one_flag byte b k m);
   }
 
-  -- where the program has the row of a set, one fused operation, and else the other
-  with_row : (pc set : ℕ) → (HasRow code set → Fuses pc) → Fuses pc → Fuses pc
-  with_row pc set with_it without = here (nat_lt set (length rs)) refl
+  -- where the program has the byte set of a number, one fused operation, and else the other
+  with_byte_set : (pc set : ℕ) → (HasByteSet code set → Fuses pc) → Fuses pc → Fuses pc
+  with_byte_set pc set with_it without = here (nat_lt set (length rs)) refl
     where
       here : (b : Bool) → nat_lt set (length rs) ≡ b → Fuses pc
-      here true e = with_it (has_row set (grind (arith, e)))
+      here true e = with_it (has_byte_set set (grind (arith, e)))
       here false e = without
 
   after_byte : (pc byte next fail : ℕ) → TakesByte code pc byte next fail → Fuses pc
@@ -58,10 +58,10 @@ module _ (code : CodeLists) (os : List Op) (rs : List (List (ℕ × ℕ))) (ts :
       here : (o : Op) → get_or os next op.Lose ≡ o → Fuses pc
       here op.Return e = (fused.ByteReturn byte next fail, byte_return code pc byte next fail t (at next op.Return e))
       here (op.All set after) e =
-          with_row pc set (λ r. (fused.ByteAll byte set after fail, byte_all code pc byte set next after fail t (at next (op.All set after) e) r)) single
+          with_byte_set pc set (λ r. (fused.ByteAll byte set after fail, byte_all code pc byte set next after fail t (at next (op.All set after) e) r)) single
       here o e = single
 
-  after_one : (pc set next fail : ℕ) → op_at code [] pc ≡ op.One set next fail → HasRow code set → Fuses pc
+  after_one : (pc set next fail : ℕ) → op_at code [] pc ≡ op.One set next fail → HasByteSet code set → Fuses pc
   after_one pc set next fail h r = here (get_or os next op.Lose) refl
     where
       single : Fuses pc
@@ -69,15 +69,15 @@ module _ (code : CodeLists) (os : List Op) (rs : List (List (ℕ × ℕ))) (ts :
 
       here : (o : Op) → get_or os next op.Lose ≡ o → Fuses pc
       here (op.All second after) e =
-          with_row pc second (λ s. (fused.OneAll set second after fail, one_all code pc set second next after fail h (at next (op.All second after) e) r s)) single
+          with_byte_set pc second (λ s. (fused.OneAll set second after fail, one_all code pc set second next after fail h (at next (op.All second after) e) r s)) single
       here o e = single
 
   -- by the byte of a set, if it has one alone
-  by_set : (pc set : ℕ) → ((byte : ℕ) → HasByte code set byte → Fuses pc) → (HasRow code set → Fuses pc) → Fuses pc
-  by_set pc set by_byte by_row = here (get_or rs set []) refl
+  by_set : (pc set : ℕ) → ((byte : ℕ) → HasByte code set byte → Fuses pc) → (HasByteSet code set → Fuses pc) → Fuses pc
+  by_set pc set by_byte by_byte_set = here (get_or rs set []) refl
     where
       other : Fuses pc
-      other = with_row pc set by_row (fused.Plain, plain code pc)
+      other = with_byte_set pc set by_byte_set (fused.Plain, plain code pc)
 
       here : (r : List (ℕ × ℕ)) → get_or rs set [] ≡ r → Fuses pc
       here ((low, high) ∷ []) e = by_bounds (low == high && (nat_lt low 128 && nat_lt set (length rs))) refl
@@ -101,7 +101,7 @@ module _ (code : CodeLists) (os : List Op) (rs : List (List (ℕ × ℕ))) (ts :
         alone code pc (fused.Text byte t next fail) (op.Text t next fail) (ap (λ l. take 1 l) (text (byte ∷ (b ∷ bs)) e)) (λ text c. refl) h,
       )
 
-  of_all : (pc set next : ℕ) → op_at code [] pc ≡ op.All set next → HasRow code set → Fuses pc
+  of_all : (pc set next : ℕ) → op_at code [] pc ≡ op.All set next → HasByteSet code set → Fuses pc
   of_all pc set next h r = here (get_or os next op.Lose) refl
     where
       here : (o : Op) → get_or os next op.Lose ≡ o → Fuses pc
@@ -115,17 +115,17 @@ module _ (code : CodeLists) (os : List Op) (rs : List (List (ℕ × ℕ))) (ts :
       here (op.Try next fail) e = (fused.Renew next fail, renewed code pc middle next fail h (at middle (op.Try next fail) e))
       here o e = (fused.Commit middle, alone code pc (fused.Commit middle) (op.Commit middle) tt (λ text c. refl) h)
 
-  of_call : (pc to row next fail : ℕ) (counts : Bool) → op_at code [] pc ≡ op.Call to row next fail counts → Fuses pc
-  of_call pc to row next fail counts h = here (get_or os to op.Lose) refl
+  of_call : (pc to rule next fail : ℕ) (counts : Bool) → op_at code [] pc ≡ op.Call to rule next fail counts → Fuses pc
+  of_call pc to rule next fail counts h = here (get_or os to op.Lose) refl
     where
       here : (o : Op) → get_or os to op.Lose ≡ o → Fuses pc
       here (op.Call end second after other inner) e = (
-        fused.CallCall end (record { row = row; next = next; fail = fail; counts = counts }) (record { row = second; next = after; fail = other; counts = inner }),
-        call_call code pc to row next fail counts end second after other inner h (at to (op.Call end second after other inner) e),
+        fused.CallCall end (record { rule = rule; next = next; fail = fail; counts = counts }) (record { rule = second; next = after; fail = other; counts = inner }),
+        call_call code pc to rule next fail counts end second after other inner h (at to (op.Call end second after other inner) e),
       )
       here o e = (
-        fused.Call to row next fail counts,
-        alone code pc (fused.Call to row next fail counts) (op.Call to row next fail counts) tt (λ text c. refl) h,
+        fused.Call to rule next fail counts,
+        alone code pc (fused.Call to rule next fail counts) (op.Call to rule next fail counts) tt (λ text c. refl) h,
       )
 
   fuse : (pc : ℕ) → Fuses pc
@@ -136,7 +136,7 @@ module _ (code : CodeLists) (os : List Op) (rs : List (List (ℕ × ℕ))) (ts :
 
       here : (o : Op) → get_or os pc op.Lose ≡ o → Fuses pc
       here op.Fail e = single fused.Fail op.Fail tt (λ text c. refl) e
-      here (op.Call to row next fail counts) e = of_call pc to row next fail counts (at pc (op.Call to row next fail counts) e)
+      here (op.Call to rule next fail counts) e = of_call pc to rule next fail counts (at pc (op.Call to rule next fail counts) e)
       here (op.Sub to next fail) e = single (fused.Sub to next fail) (op.Sub to next fail) tt (λ text c. refl) e
       here op.Return e = single fused.Return op.Return tt (λ text c. refl) e
       here op.Back e = single fused.Back op.Back tt (λ text c. refl) e
@@ -147,7 +147,7 @@ module _ (code : CodeLists) (os : List Op) (rs : List (List (ℕ × ℕ))) (ts :
           let h = at pc (op.IsOne set next fail) e in
           by_set pc set (λ byte b. (fused.IsByte byte next fail, tests_byte code pc set byte next fail b h))
           (λ r. single (fused.IsOne set next fail) (op.IsOne set next fail) r (λ text c. refl) e)
-      here (op.All set next) e = with_row pc set (λ r. of_all pc set next (at pc (op.All set next) e) r) (fused.Plain, plain code pc)
+      here (op.All set next) e = with_byte_set pc set (λ r. of_all pc set next (at pc (op.All set next) e) r) (fused.Plain, plain code pc)
       here (op.Text t next fail) e = of_text pc t next fail (at pc (op.Text t next fail) e)
       here (op.Try next fail) e = single (fused.Try next fail) (op.Try next fail) tt (λ text c. refl) e
       here (op.Not next fail) e = single (fused.Not next fail) (op.Not next fail) tt (λ text c. refl) e
@@ -158,10 +158,10 @@ module _ (code : CodeLists) (os : List Op) (rs : List (List (ℕ × ℕ))) (ts :
 
   -- a fused operation that is given, where it is one
   given : (f : Fused) (pc : ℕ) → Fuses pc
-  given (fused.Tests place) pc = here (has_entries code os rs tbs ops rows tables (kind_of (get_or os pc op.Lose)) place) refl
+  given (fused.Tests place) pc = here (has_entries code os rs tbs ops byte_sets tables (kind_of (get_or os pc op.Lose)) place) refl
     where
-      here : (b : Bool) → has_entries code os rs tbs ops rows tables (kind_of (get_or os pc op.Lose)) place ≡ b → Fuses pc
-      here true e = (fused.Tests place, are_tests code os rs tbs ops rows tables pc place (kind_of (get_or os pc op.Lose)) (at pc (get_or os pc op.Lose) refl) e)
+      here : (b : Bool) → has_entries code os rs tbs ops byte_sets tables (kind_of (get_or os pc op.Lose)) place ≡ b → Fuses pc
+      here true e = (fused.Tests place, are_tests code os rs tbs ops byte_sets tables pc place (kind_of (get_or os pc op.Lose)) (at pc (get_or os pc op.Lose) refl) e)
       here false e = fuse pc
   given f pc = fuse pc
 
@@ -185,9 +185,9 @@ module _ (code : CodeLists) (os : List Op) (rs : List (List (ℕ × ℕ))) (ts :
 pub exact_fusion : IsFusionOf exact_lists []
 exact_fusion = λ pc. plain exact_lists pc
 
-same_fast_list : fused_from fast_lists fast_ops fast_sets texts fast_tables refl right_fast_rows refl refl 0 FAST_FUSED ≡ FAST_FUSED
-unfolding fused_from given fuse of_call of_commit of_all of_text by_set after_one after_byte with_row has_entries kind_of by_kind checks entries counted
+same_fast_list : fused_from fast_lists fast_ops fast_sets texts fast_tables refl right_fast_byte_sets refl refl 0 FAST_FUSED ≡ FAST_FUSED
+unfolding fused_from given fuse of_call of_commit of_all of_text by_set after_one after_byte with_byte_set has_entries kind_of by_kind checks entries counted
 same_fast_list = refl
 
 pub fast_fusion : IsFusionOf fast_lists FAST_FUSED
-fast_fusion = is_fusion fast_lists fast_ops fast_sets texts fast_tables refl right_fast_rows refl refl FAST_FUSED same_fast_list
+fast_fusion = is_fusion fast_lists fast_ops fast_sets texts fast_tables refl right_fast_byte_sets refl refl FAST_FUSED same_fast_list

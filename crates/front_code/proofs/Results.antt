@@ -31,7 +31,7 @@ use Rattle.front_code.specs.declared.runs.RuleRun.{RuleRun}
 
 -- a machine before its first step
 pub record IsFresh (m : Machine) (place : ℕ) : Type 0 where
-  pub slots : m.slots.items ≡ []
+  pub frames : m.frames.items ≡ []
   pub trees : m.trees.items ≡ []
   pub pushed : m.stack.pushed.items ≡ []
   pub furthest : m.furthest ≡ 0
@@ -46,7 +46,7 @@ pub record IsTaken (m : Machine) (run : RuleRun) : Type 0 where
 
 fresh : (code : CodeLists) (text : List ℕ) (m : Machine) (l place : ℕ) → IsFresh m place → config code text m l 0 ≡ start_config l (one_place place)
 fresh code text m l place f =
-    let a = f.slots in
+    let a = f.frames in
     let b = f.trees in
     let d = f.pushed in
     let c = f.furthest in

@@ -162,12 +162,12 @@ module _ (s : Setting) where
   behind_all {l = l} {ranges = ranges} i x o h e = inr (record { set = i; ranges = ranges; taken = has_op l o; is = has_set i h e; takes = x })
 
   -- the implicit skipping, and where there is none
-  pub gap_in_place : {l n w : ℕ} → Laid (Run Between skipped) l n w → Laid (Skipping NonAtomicMode) l n w
-  gap_in_place a = skips a
+  pub trivia_in_place : {l n w : ℕ} → Laid (Run Between skipped) l n w → Laid (Skipping NonAtomicMode) l n w
+  trivia_in_place a = skips a
 
-  pub gap : {l n w : ℕ} (first last : ℕ) → IsPoint s.called (Run Between skipped) first last 0 → op_of l ≡ op.Sub first n w → op_of last ≡ op.Back
+  pub trivia : {l n w : ℕ} (first last : ℕ) → IsPoint s.called (Run Between skipped) first last 0 → op_of l ≡ op.Sub first n w → op_of last ≡ op.Back
       → Laid (Skipping NonAtomicMode) l n w
-  gap {l} first last p a z = routine first last (has_op l a) p (has_op last z)
+  trivia {l} first last p a z = routine first last (has_op l a) p (has_op last z)
 
   pub tight_atomic : IsTight meta_grammar s.classes AtomicMode
   tight_atomic t = (by.atomic, λ place. refl)

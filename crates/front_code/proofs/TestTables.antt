@@ -13,7 +13,7 @@ use Rattle.matcher_code.specs.Reading.{char_len, entry, flag}
 use Rattle.matcher_code.specs.Sets.{flag_of}
 use Rattle.matcher_code.specs.Steps.{Config, apply_op, branch, jump, op_at, rest_of, step, steps}
 use Rattle.matcher_code.proofs.Fusing.{byte_len, step_at}
-use Rattle.front_code.proofs.ByteLemmas.{has_rows, row_at}
+use Rattle.front_code.proofs.ByteLemmas.{has_byte_sets, byte_set_at}
 
 -- an operation that tests the next character, or notes a failure
 pub data Kind : Op → Type 0 where
@@ -63,7 +63,7 @@ and_false false = refl
 abbrev bit : Bool → ℕ
 bit b = if b then 1 else 0
 
-module _ (code : CodeLists) (os : List Op) (rs : List (List (ℕ × ℕ))) (ts : List ℕ) (ops : code.ops ≡ os) (rows : has_rows rs code.rows ≡ true) (tables : code.tables ≡ ts) where
+module _ (code : CodeLists) (os : List Op) (rs : List (List (ℕ × ℕ))) (ts : List ℕ) (ops : code.ops ≡ os) (byte_sets : has_byte_sets rs code.byte_sets ≡ true) (tables : code.tables ≡ ts) where
   -- a set has a byte of ASCII; 128 stands for the end
   abbrev in_set : ℕ → ℕ → Bool
   in_set set k = nat_lt k 128 && is_covered (get_or rs set []) k
@@ -104,7 +104,7 @@ module _ (code : CodeLists) (os : List Op) (rs : List (List (ℕ × ℕ))) (ts :
 
   char_len_of : (set b : ℕ) (bs : List ℕ) → set < length rs → b < 128 → (x : Bool) → is_covered (get_or rs set []) b ≡ x → char_len code set (b ∷ bs) ≡ bit x
   char_len_of set b bs l m x q =
-      let f : flag code set b ≡ flag_of (get_or rs set []) b = row_at rs code.rows rows set l b (omega (arith, m)) in
+      let f : flag code set b ≡ flag_of (get_or rs set []) b = byte_set_at rs code.byte_sets byte_sets set l b (omega (arith, m)) in
       let z : nat_lt b 128 ≡ true = grind (arith, m) in
       byte_len code set b bs (bit x) (f ∙ (ap (λ y. if y then (if is_covered (get_or rs set []) b then 1 else 0) else 5) z ∙ ap bit q)) (small x)
     where

@@ -6,7 +6,7 @@ use Rattle.base_language.specs.Language.State.{Classes, Failure, State, Success,
 use Rattle.base_language.specs.declared.grammar.Rule.{Rule}
 use Rattle.front_grammar.specs.Outcomes.{Recognizes}
 use Rattle.matcher_code.specs.Reached.{nodes_of}
-use Rattle.matcher_code.specs.Steps.{with_rows}
+use Rattle.matcher_code.specs.Steps.{insert_rules}
 use Rattle.front_code.specs.Numbers.{number_of}
 use Rattle.front_code.specs.declared.runs.RuleRun.{RuleRun}
 
@@ -18,14 +18,14 @@ pub record HasMatched (rule : Rule) (text : List ℕ) (place : ℕ) (run : RuleR
   pub found : Recognizes rule text classes (Success state trees)
   pub ends : end ≡ state.position
   pub nodes : run.trees.items ≡ nodes_of number_of 0 trees
-  pub names : run.names.items ≡ with_rows [] (map number_of (expected_at place found))
+  pub names : run.names.items ≡ insert_rules [] (map number_of (expected_at place found))
 
 -- the rule fails there, with the furthest failure and the names of the run
 pub record HasFailed (rule : Rule) (text : List ℕ) (place : ℕ) (run : RuleRun) (classes : Classes)
     : Type 0 where
   pub found : Recognizes rule text classes Failure
   pub furthest : run.furthest ≡ furthest found
-  pub names : run.names.items ≡ with_rows [] (map number_of (expected_at place found))
+  pub names : run.names.items ≡ insert_rules [] (map number_of (expected_at place found))
 
 -- the run is one of the rule on the text, where names are asked for at a position
 abbrev pub HasEnded : Rule → List ℕ → ℕ → RuleRun → Option ℕ → Type 0

@@ -4,8 +4,9 @@ ghost use Rattle.matcher_code.specs.Fused.{IsFusionOf};
 ghost use Rattle.front_code.specs.Codes.{IsExactCode, IsFastCode};
 
 use crate::constants::{
-    EXACT_BYTES, EXACT_ORDERS, EXACT_RANGES, EXACT_ROWS, EXACT_SET_PLACES, FAST_BYTES, FAST_FUSED,
-    FAST_ORDERS, FAST_RANGES, FAST_ROWS, FAST_SET_PLACES, FAST_TABLES, TEXT_BYTES, TEXT_PLACES,
+    EXACT_BYTE_SETS, EXACT_BYTES, EXACT_ORDERS, EXACT_RANGES, EXACT_SET_PLACES, FAST_BYTE_SETS,
+    FAST_BYTES, FAST_FUSED, FAST_ORDERS, FAST_RANGES, FAST_SET_PLACES, FAST_TABLES, TEXT_BYTES,
+    TEXT_PLACES,
 };
 use matcher_code::bytecode::Bytecode;
 use matcher_code::fused::Fused;
@@ -24,7 +25,7 @@ pub fn exact_code() -> FusedCode
     FusedCode {
         code: Bytecode {
             ops: &EXACT_BYTES,
-            rows: &EXACT_ROWS,
+            byte_sets: &EXACT_BYTE_SETS,
             tables: &[],
             set_places: &EXACT_SET_PLACES,
             ranges: &EXACT_RANGES,
@@ -46,7 +47,7 @@ pub fn fast_code() -> FusedCode
     FusedCode {
         code: Bytecode {
             ops: &FAST_BYTES,
-            rows: &FAST_ROWS,
+            byte_sets: &FAST_BYTE_SETS,
             tables: &FAST_TABLES,
             set_places: &FAST_SET_PLACES,
             ranges: &FAST_RANGES,

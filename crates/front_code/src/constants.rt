@@ -58,11 +58,11 @@ macro_rules! bytes {
     (Back) => {
         op!(5 0 0 0 0)
     };
-    (Call $to:literal $row:literal $next:literal $fail:literal false) => {
-        op!(1 $to $row $next $fail)
+    (Call $to:literal $rule:literal $next:literal $fail:literal false) => {
+        op!(1 $to $rule $next $fail)
     };
-    (Call $to:literal $row:literal $next:literal $fail:literal true) => {
-        op!(2 $to $row $next $fail)
+    (Call $to:literal $rule:literal $next:literal $fail:literal true) => {
+        op!(2 $to $rule $next $fail)
     };
     (Sub $to:literal $next:literal $fail:literal) => {
         op!(3 $to $next $fail 0)
@@ -100,11 +100,11 @@ macro_rules! bytes {
     (End $next:literal $fail:literal) => {
         op!(19 $next $fail 0 0)
     };
-    (Leaf $row:literal $next:literal) => {
-        op!(20 $row $next 0 0)
+    (Leaf $rule:literal $next:literal) => {
+        op!(20 $rule $next 0 0)
     };
-    (Miss $row:literal $next:literal) => {
-        op!(33 $row $next 0 0)
+    (Miss $rule:literal $next:literal) => {
+        op!(33 $rule $next 0 0)
     };
     (Nested $opening:literal $closing:literal $next:literal $fail:literal) => {
         op!(21 $opening $closing $next $fail)
@@ -143,12 +143,12 @@ macro_rules! fused {
     (Renew $next:literal $fail:literal) => {
         Fused::Renew { next: $next, fail: $fail }
     };
-    (CallCall $to:literal $row:literal $next:literal $fail:literal $counts:literal
+    (CallCall $to:literal $rule:literal $next:literal $fail:literal $counts:literal
         $second:literal $after:literal $other:literal $inner:literal) => {
         Fused::CallCall {
             to: $to,
-            outer: CallFrame { row: $row, next: $next, fail: $fail, counts: $counts },
-            inner: CallFrame { row: $second, next: $after, fail: $other, counts: $inner },
+            outer: CallFrame { rule: $rule, next: $next, fail: $fail, counts: $counts },
+            inner: CallFrame { rule: $second, next: $after, fail: $other, counts: $inner },
         }
     };
     (Text $first:literal $text:literal $next:literal $fail:literal) => {
@@ -166,8 +166,8 @@ macro_rules! fused {
     (Back) => {
         Fused::Back
     };
-    (Call $to:literal $row:literal $next:literal $fail:literal $counts:literal) => {
-        Fused::Call { to: $to, row: $row, next: $next, fail: $fail, counts: $counts }
+    (Call $to:literal $rule:literal $next:literal $fail:literal $counts:literal) => {
+        Fused::Call { to: $to, rule: $rule, next: $next, fail: $fail, counts: $counts }
     };
     (Sub $to:literal $next:literal $fail:literal) => {
         Fused::Sub { to: $to, next: $next, fail: $fail }
@@ -213,7 +213,7 @@ macro_rules! all_fused {
 }
 
 // Rows of sets, by the bits of the characters of ASCII.
-macro_rules! rows {
+macro_rules! byte_sets {
     ($(
         $byte0:literal $byte1:literal $byte2:literal $byte3:literal $byte4:literal $byte5:literal
         $byte6:literal $byte7:literal $byte8:literal $byte9:literal $byte10:literal $byte11:literal
@@ -862,8 +862,8 @@ pub static EXACT_BYTES: [[u8; 20]; 498] = all_bytes! {
     (One 10 497 497) (One 10 490 490)
 };
 
-/// The row of each set of the exact code.
-pub static EXACT_ROWS: [u8; 4864] = rows! {
+/// The byte sets of the exact code.
+pub static EXACT_BYTE_SETS: [u8; 4864] = byte_sets! {
     0 0 0 0 0 0 0 0 254 255 255 135 254 255 255 7; 0 0 0 0 0 0 255 3 254 255 255 135 254 255 255 7;
     0 0 0 0 0 0 255 3 0 0 0 0 0 0 0 0; 0 0 0 0 0 0 1 0 0 0 0 0 0 0 0 0;
     0 0 0 0 0 0 254 3 0 0 0 0 0 0 0 0; 0 0 0 0 0 0 0 0 254 255 255 7 254 255 255 7;
@@ -1023,8 +1023,8 @@ pub static FAST_TABLES: [[u8; 4]; 9288] = tables! {
     2167 2167;
 };
 
-/// The row of each set of the fast code.
-pub static FAST_ROWS: [u8; 14592] = rows! {
+/// The byte sets of the fast code.
+pub static FAST_BYTE_SETS: [u8; 14592] = byte_sets! {
     0 38 0 0 1 0 0 0 0 0 0 0 0 0 0 0; 0 2 0 0 1 0 0 0 0 0 0 0 0 0 0 0; 0 36 0 0 0 0 0 0 0 0 0 0 0 0 0 0;
     0 0 0 0 0 128 0 0 0 0 0 0 0 0 0 0; 0 0 0 0 0 128 0 0 0 0 0 0 0 0 0 0;
     0 0 0 0 0 128 0 0 254 255 255 135 254 255 255 7; 0 0 0 0 0 0 0 0 254 255 255 135 254 255 255 7;

@@ -18,7 +18,7 @@ use std::alloc::{AllocError, Global};
 pub struct RuleRun {
     /// The end of the match in bytes, or `None` if the rule fails.
     pub end: Option<usize>,
-    /// The trees of the match in preorder; the row of each is the number of its rule.
+    /// The trees of the match in preorder; the field `rule` of each is the number of its rule.
     pub trees: Vec<TreeNode>,
     /// The greatest position in bytes at which a call that counts failed; 0 if none did.
     pub furthest: usize,

@@ -85,7 +85,7 @@ trees_over (Tree r i j inner others) k ts h =
     let m = suc k + ci in
     let A = nodes_of number_of (suc k) inner in
     let B = nodes_of number_of m others in
-    let t : TreeNode = record { row = number_of r; start = i; end = j; after = m } in
+    let t : TreeNode = record { rule = number_of r; start = i; end = j; after = m } in
     let behind = joined others (trees_from (k + suc (ci + co)) ts) in
     let e1 : m - suc k ≡ ci = omega arith in
     let split = append_assoc A B ts in
@@ -139,11 +139,11 @@ cut_off late early n e =
 
 -- a tree around the last trees of a list, in their place
 pub tree_added : (old kept inner now : List (TokenTree Rule)) (tree : TokenTree Rule) (t : TreeNode) (n : ℕ) → old ≡ kept ++ inner → length inner ≡ n
-    → tree_of tree ≡ Token (rule_numbered t.row) t.start t.end (trees_of inner) NoTokens → now ≡ kept ++ tree ∷ [] → named_trees_of now ≡ tree_around t n (named_trees_of old)
+    → tree_of tree ≡ Token (rule_numbered t.rule) t.start t.end (trees_of inner) NoTokens → now ≡ kept ++ tree ∷ [] → named_trees_of now ≡ tree_around t n (named_trees_of old)
 tree_added old kept inner now tree t n a b c d =
     let x = cut_off kept inner n b in
-    ap named_trees_of d ∙ named_push kept tree (rule_numbered t.row) t.start t.end (trees_of inner) c
-    ∙ ap₂ (λ p q. Tree (name_of (rule_numbered t.row)) t.start t.end p q) (sym x.0 ∙ ap (λ l. first_trees n (named_trees_of l)) (sym a)) (sym x.1 ∙ ap (λ l. other_trees n (named_trees_of l)) (sym a))
+    ap named_trees_of d ∙ named_push kept tree (rule_numbered t.rule) t.start t.end (trees_of inner) c
+    ∙ ap₂ (λ p q. Tree (name_of (rule_numbered t.rule)) t.start t.end p q) (sym x.0 ∙ ap (λ l. first_trees n (named_trees_of l)) (sym a)) (sym x.1 ∙ ap (λ l. other_trees n (named_trees_of l)) (sym a))
 
 -- the node of a number, and those behind it
 pub one_back : (nodes : List TreeNode) (k n : ℕ) (t : TreeNode) → k < length nodes → t ≡ get_or nodes k t → n ≡ suc k → drop k nodes ≡ t ∷ drop n nodes

@@ -7,7 +7,7 @@ use Rattle.base_language.specs.Language.Text.{Text}
 use Rattle.base_language.specs.Pieces.MetaRules.{meta_rules, name_of}
 use Rattle.base_language.specs.declared.grammar.Rule.{Rule}
 use Rattle.base_language.specs.declared.grammar.Rule.TheVariants as is
-use Rattle.matcher_code.specs.Steps.{is_among, with_row, with_rows}
+use Rattle.matcher_code.specs.Steps.{is_among, insert_rule, insert_rules}
 use Rattle.front_code.specs.Numbers.{number_of, place_among}
 use Rattle.front_code.proofs.TreeNames.{small_number}
 use Rattle.front_syntax.specs.ExpectedRules.{is_named, is_numbered, rules_named}
@@ -35,31 +35,31 @@ pub any_is_among : (numbers : List ℕ) (n : ℕ) → list_any (λ y. nat_eq y n
 any_is_among [] n = refl
 any_is_among (m ∷ ms) n = ap (λ b. nat_eq m n || b) (any_is_among ms n)
 
--- a row that is among others is found there
+-- a rule that is among others is found there
 among-append : (ms ns : List ℕ) (n : ℕ) → is_among (ms ++ ns) n ≡ (is_among ms n || is_among ns n)
 among-append [] ns n = refl
 among-append (m ∷ ms) ns n = ap (λ b. nat_eq m n || b) (among-append ms ns n) ∙ sym (or_assoc (nat_eq m n) (is_among ms n) (is_among ns n))
 
-among_row : (rows : List ℕ) (n x : ℕ) → is_among (with_row rows n) x ≡ (is_among rows x || nat_eq n x)
-among_row rows n x = go (is_among rows n) refl
+among_rule : (rules : List ℕ) (n x : ℕ) → is_among (insert_rule rules n) x ≡ (is_among rules x || nat_eq n x)
+among_rule rules n x = go (is_among rules n) refl
   where
-    known_row : is_among rows n ≡ true → is_among rows x ≡ (is_among rows x || nat_eq n x)
-    known_row e = tests_agree _ _ (λ h. ap (λ b. b || nat_eq n x) h) (λ h. found (is_among rows x) (nat_eq n x) refl refl h)
+    known_rule : is_among rules n ≡ true → is_among rules x ≡ (is_among rules x || nat_eq n x)
+    known_rule e = tests_agree _ _ (λ h. ap (λ b. b || nat_eq n x) h) (λ h. found (is_among rules x) (nat_eq n x) refl refl h)
       where
-        found : (a b : Bool) → is_among rows x ≡ a → nat_eq n x ≡ b → (a || b) ≡ true → is_among rows x ≡ true
+        found : (a b : Bool) → is_among rules x ≡ a → nat_eq n x ≡ b → (a || b) ≡ true → is_among rules x ≡ true
         found true b p q h = p
-        found false true p q h = subst (λ y. is_among rows y ≡ true) (nat_same n x q) e
+        found false true p q h = subst (λ y. is_among rules y ≡ true) (nat_same n x q) e
         found false false p q h = cc
 
-    go : (b : Bool) → is_among rows n ≡ b → is_among (if b then rows else rows ++ n ∷ []) x ≡ (is_among rows x || nat_eq n x)
-    go true e = known_row e
-    go false e = among-append rows (n ∷ []) x ∙ ap (λ b. is_among rows x || b) (or_false (nat_eq n x))
+    go : (b : Bool) → is_among rules n ≡ b → is_among (if b then rules else rules ++ n ∷ []) x ≡ (is_among rules x || nat_eq n x)
+    go true e = known_rule e
+    go false e = among-append rules (n ∷ []) x ∙ ap (λ b. is_among rules x || b) (or_false (nat_eq n x))
 
-among_rows : (rows ns : List ℕ) (x : ℕ) → is_among (with_rows rows ns) x ≡ (is_among rows x || is_among ns x)
-among_rows rows [] x = sym (or_false (is_among rows x))
-among_rows rows (n ∷ ns) x =
-    among_rows (with_row rows n) ns x
-    ∙ (ap (λ b. b || is_among ns x) (among_row rows n x) ∙ or_assoc (is_among rows x) (nat_eq n x) (is_among ns x))
+among_rules : (rules ns : List ℕ) (x : ℕ) → is_among (insert_rules rules ns) x ≡ (is_among rules x || is_among ns x)
+among_rules rules [] x = sym (or_false (is_among rules x))
+among_rules rules (n ∷ ns) x =
+    among_rules (insert_rule rules n) ns x
+    ∙ (ap (λ b. b || is_among ns x) (among_rule rules n x) ∙ or_assoc (is_among rules x) (nat_eq n x) (is_among ns x))
 
 -- a name that has the place of a rule's name is that name
 place_same : (rs : List Rule) (n m : Text) → place_among rs m < length rs → place_among rs n ≡ place_among rs m → n ≡ m
@@ -82,10 +82,10 @@ among_numbers : (names : List Text) (r : Rule) → is_among (map number_of names
 among_numbers [] r = refl
 among_numbers (n ∷ names) r = rw (same_number n r, among_numbers names r) refl
 
-numbered_named : (numbers : List ℕ) (names : List Text) → numbers ≡ with_rows [] (map number_of names) → (r : Rule) → is_numbered numbers r ≡ is_named names r
+numbered_named : (numbers : List ℕ) (names : List Text) → numbers ≡ insert_rules [] (map number_of names) → (r : Rule) → is_numbered numbers r ≡ is_named names r
 numbered_named numbers names e r =
-    ap (λ ns. is_among ns (number_of (name_of r))) e ∙ (among_rows [] (map number_of names) (number_of (name_of r)) ∙ among_numbers names r)
+    ap (λ ns. is_among ns (number_of (name_of r))) e ∙ (among_rules [] (map number_of names) (number_of (name_of r)) ∙ among_numbers names r)
 
 -- the rules of the numbers of names are the rules that are named
-pub in_order_named : (numbers : List ℕ) (names : List Text) → numbers ≡ with_rows [] (map number_of names) → filter (is_numbered numbers) (is.EOI ∷ meta_rules) ≡ rules_named names
+pub in_order_named : (numbers : List ℕ) (names : List Text) → numbers ≡ insert_rules [] (map number_of names) → filter (is_numbered numbers) (is.EOI ∷ meta_rules) ≡ rules_named names
 in_order_named numbers names e = filter_agree (is_numbered numbers) (is_named names) (numbered_named numbers names e) (is.EOI ∷ meta_rules)

@@ -1,5 +1,5 @@
 pub mod Building
-pub mod EntryLists
+pub mod TokenEventLists
 pub mod Expectations
 pub mod Parsing
 pub mod WithRules

@@ -25,14 +25,14 @@ use Rattle.front_code.specs.Numbers.{number_of}
 use Rattle.front_code.specs.Runs.{HasEnded, IsMatch, IsParseOf, IsRunOf, Parses}
 use Rattle.front_code.specs.declared.runs.RuleRun.{RuleRun}
 use Rattle.front_code.proofs.TreeNames.{numbered}
-use Rattle.matcher_code.specs.Steps.{with_rows}
-use Rattle.front_syntax.specs.declared.entries.Entry.{Entry}
-use Rattle.front_syntax.specs.Entries.{IsWhole, named_entries}
+use Rattle.matcher_code.specs.Steps.{insert_rules}
+use Rattle.front_syntax.specs.declared.events.TokenEvent.{TokenEvent}
+use Rattle.front_syntax.specs.TokenEvents.{IsWhole, named_events}
 use Rattle.front_syntax.specs.ExpectedRules.{AreExpected, ExpectsNothing, rules_named}
 use Rattle.front_syntax.specs.Parses.{AreTokensOf, FailsAt, IsSyntaxErrorOrMemory, ParseRefuses}
 use Rattle.front_syntax.specs.Nodes.{AreNodesOf, AreSpelledNodes}
 use Rattle.front_syntax.proofs.Building.{all_built}
-use Rattle.front_syntax.proofs.EntryLists.{entries-whole}
+use Rattle.front_syntax.proofs.TokenEventLists.{events-whole}
 
 no_classes : Classes
 no_classes n c = false
@@ -63,8 +63,8 @@ module _ (rule : Rule) (text : List ℕ) (run : RuleRun) where
       let x = subst (Parses rule text run) e h in
       ((x classes).found, (x classes).furthest)
 
-pub tokens_whole : (rule : Rule) (text : List ℕ) (es : List Entry) → AreTokensOf rule text es → IsWhole 0 (named_entries es)
-tokens_whole rule text es t = subst (λ l. IsWhole 0 l) (sym t.2) (entries-whole 0 t.0)
+pub tokens_whole : (rule : Rule) (text : List ℕ) (es : List TokenEvent) → AreTokensOf rule text es → IsWhole 0 (named_events es)
+tokens_whole rule text es t = subst (λ l. IsWhole 0 l) (sym t.2) (events-whole 0 t.0)
 
 -- the places of what a text spells, and of a failure
 pub nested_in_text : (rule : Rule) (text : List ℕ) (trees : TokenTrees Rule) → IsUtf8 text → Spells rule text (named trees) → AreNested text trees 0 (length text)
@@ -93,17 +93,17 @@ module _ (rule : Rule) (text : List ℕ) where
 
   -- the names of a run that fails
   names_where_it_fails : (place : ℕ) (run : RuleRun) (end : Option ℕ) (classes : Classes) (d : Recognizes rule text classes Failure) → HasEnded rule text place run end
-      → run.names.items ≡ with_rows [] (map number_of (expected_at place d))
+      → run.names.items ≡ insert_rules [] (map number_of (expected_at place d))
   names_where_it_fails place run (Some end) classes d h = let e = same meta_grammar classes (h classes).found d in cc
   names_where_it_fails place run None classes d h =
-      (h classes).names ∙ ap (λ names. with_rows [] (map number_of names)) (one_list meta_grammar classes place (h classes).found d)
+      (h classes).names ∙ ap (λ names. insert_rules [] (map number_of names)) (one_list meta_grammar classes place (h classes).found d)
 
   pub nothing_if_ok : (place : ℕ) (result : Result (Vec Rule Global) AllocError) → FailsAt rule text place → IfOk result (λ rules. ExpectsNothing rule text rules.items)
   nothing_if_ok place (Ok rules) f = nothing_where_it_fails place rules.items f
   nothing_if_ok place (Err e) f = tt
 
   pub expected_if_ok : (place : ℕ) (run : RuleRun) (result : Result (Vec Rule Global) AllocError) → FailsAt rule text place → IsRunOf rule text place run
-      → ((names : List Text) → run.names.items ≡ with_rows [] (map number_of names) → IfOk result (λ rules. rules.items ≡ rules_named names)) → IfOk result (λ rules. AreExpected rule text rules.items)
+      → ((names : List Text) → run.names.items ≡ insert_rules [] (map number_of names) → IfOk result (λ rules. rules.items ≡ rules_named names)) → IfOk result (λ rules. AreExpected rule text rules.items)
   expected_if_ok place run (Ok rules) f h told = λ classes d.
       (let e : place ≡ furthest d = (f classes).1 ∙ one_place meta_grammar classes (f classes).0 d in
       told (expected_at place d) (names_where_it_fails place run run.end classes d h) ∙ ap (λ n. rules_named (expected_at n d)) e)

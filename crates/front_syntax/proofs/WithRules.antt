@@ -17,7 +17,7 @@ use Rattle.front_syntax.specs.Nodes.{AreNodesOf}
 nodes_from-append : (k : ℕ) (xs ys : List TreeNode) → nodes_from k (xs ++ ys) ≡ nodes_from k xs ++ nodes_from (k + length xs) ys
 nodes_from-append k [] ys = ap (λ n. nodes_from n ys) (omega arith)
 nodes_from-append k (x ∷ xs) ys =
-    let n : TokenNode = record { rule = rule_numbered x.row; start = x.start; end = x.end; inner = x.after - suc k } in
+    let n : TokenNode = record { rule = rule_numbered x.rule; start = x.start; end = x.end; inner = x.after - suc k } in
     ap (λ l. n ∷ l) (nodes_from-append (suc k) xs ys ∙ ap (λ m. nodes_from (suc k) xs ++ nodes_from m ys) (omega arith))
 
 length-nodes_from : (k : ℕ) (xs : List TreeNode) → length (nodes_from k xs) ≡ length xs
@@ -51,7 +51,7 @@ of_trees (Tree r i j inner others) k h =
 
 -- one more node
 pub one_more : (nodes : List TreeNode) (k m : ℕ) (d : TreeNode) (before after : List TokenNode) (n : TokenNode) → k < length nodes → m ≡ suc k
-    → (let t = get_or nodes k d in n ≡ record { rule = rule_numbered t.row; start = t.start; end = t.end; inner = t.after - suc k }) → after ≡ before ++ n ∷ []
+    → (let t = get_or nodes k d in n ≡ record { rule = rule_numbered t.rule; start = t.start; end = t.end; inner = t.after - suc k }) → after ≡ before ++ n ∷ []
     → before ++ nodes_from k (drop k nodes) ≡ nodes_from 0 nodes → after ++ nodes_from m (drop m nodes) ≡ nodes_from 0 nodes
 one_more nodes k m d before after n l f e a h =
     ap₂ (λ x i. x ++ nodes_from i (drop i nodes)) a f

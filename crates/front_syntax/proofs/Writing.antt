@@ -1,4 +1,4 @@
--- The entries that are written from the nodes of trees are those of the trees.
+-- The events that are written from the nodes of trees are those of the trees.
 use Rattle.std.proofs.Common.{◌≡◌, refl, sym, ◌∙◌, ap, ap₂, ℕ, suc, ◌+◌, ◌-◌, ◌*◌, ◌<◌, ◌≤◌, List, [], ◌∷◌, ◌++◌, true, false, drop, get_or, length, nat_le, arith, if◌then◌else◌, append_assoc, append-nil}
 use Rattle.std.specs.Prelude.{⊤}
 use Rattle.std.proofs.lemmas.List.{drop_all, get_or_default, length-append}
@@ -7,10 +7,10 @@ use Rattle.matcher_code.specs.declared.state.TreeNode.{TreeNode}
 use Rattle.matcher_code.specs.Reached.{count_of, nodes_of}
 use Rattle.front_code.specs.Numbers.{AreNumbered, number_of}
 use Rattle.front_syntax.proofs.Building.{one_back}
-use Rattle.front_syntax.specs.declared.entries.Open.{Open}
-use Rattle.front_syntax.specs.Entries.{Entry, Starts, Ends, entries_of, entry_count}
+use Rattle.front_syntax.specs.declared.events.Open.{Open}
+use Rattle.front_syntax.specs.TokenEvents.{TokenEvent, Starts, Ends, events_of, event_count}
 use Rattle.front_syntax.specs.Nodes.{AreNodesOf}
-use Rattle.front_syntax.specs.Writing.{GoesOn, closing, left_entries, left_open, opened, start_entry}
+use Rattle.front_syntax.specs.Writing.{GoesOn, closing, left_events, left_open, opened, start_event}
 
 -- the last opened tree goes on to a number
 abbrev pub Goes : ℕ → List Open → Type 0
@@ -34,13 +34,13 @@ none_ended k (t ∷ ts) h =
     let e = above t.after k (omega (arith, h)) in
     (ap (λ b. if b then Ends t.end t.first ∷ closing k ts else []) e, ap (λ b. if b then left_open k ts else t ∷ ts) e)
 
--- the entries of a node and those behind it, where some ends come first
-abbrev after_ends : TreeNode → List TreeNode → ℕ → ℕ → List Entry → List Open → List Entry
-after_ends t ts k m ends left = ends ++ start_entry t k m ∷ left_entries ts (suc k) (suc m) (opened t m ∷ left)
+-- the events of a node and those behind it, where some ends come first
+abbrev after_ends : TreeNode → List TreeNode → ℕ → ℕ → List TokenEvent → List Open → List TokenEvent
+after_ends t ts k m ends left = ends ++ start_event t k m ∷ left_events ts (suc k) (suc m) (opened t m ∷ left)
 
 -- the end of the last opened tree
 end_one : (ts : List TreeNode) (k n : ℕ) (t : Open) (os : List Open) → nat_le t.after k ≡ true
-    → left_entries ts k n (t ∷ os) ≡ Ends t.end t.first ∷ left_entries ts k (suc n) os
+    → left_events ts k n (t ∷ os) ≡ Ends t.end t.first ∷ left_events ts k (suc n) os
 end_one [] k n t os e = ap (λ b. if b then Ends t.end t.first ∷ closing k os else []) e
 end_one (u ∷ ts) k n t os e =
     let s = closing k os in
@@ -50,76 +50,76 @@ end_one (u ∷ ts) k n t os e =
 
 -- the start of the next tree
 start_one : (t : TreeNode) (ts : List TreeNode) (k n : ℕ) (os : List Open) → Goes (suc k) os
-    → left_entries (t ∷ ts) k n os ≡ start_entry t k n ∷ left_entries ts (suc k) (suc n) (opened t n ∷ os)
+    → left_events (t ∷ ts) k n os ≡ start_event t k n ∷ left_events ts (suc k) (suc n) (opened t n ∷ os)
 start_one t ts k n os h =
     let x = none_ended k os h in
     let l : n + 0 ≡ n = omega arith in
     ap₂ (λ c o. after_ends t ts k (n + length c) c o) x.0 x.1 ∙ ap (λ m. after_ends t ts k m [] os) l
 
--- each tree has two entries
-pub two_each : (us : Trees) → entry_count us ≡ 2 * count_of us
+-- each tree has two events
+pub two_each : (us : Trees) → event_count us ≡ 2 * count_of us
 two_each None' = refl
 two_each (Tree r i j inner others) = omega (arith, two_each inner, two_each others)
 
 write_over : (us : Trees) (k n : ℕ) (os : List Open) (ts : List TreeNode) → AreNumbered us → Goes (k + count_of us) os
-    → left_entries (nodes_of number_of k us ++ ts) k n os ≡ entries_of n us ++ left_entries ts (k + count_of us) (n + entry_count us) os
-write_over None' k n os ts h g = ap₂ (λ a b. left_entries ts a b os) (omega arith) (omega arith)
+    → left_events (nodes_of number_of k us ++ ts) k n os ≡ events_of n us ++ left_events ts (k + count_of us) (n + event_count us) os
+write_over None' k n os ts h g = ap₂ (λ a b. left_events ts a b os) (omega arith) (omega arith)
 write_over (Tree r i j inner others) k n os ts h g =
     let ci = count_of inner in
     let co = count_of others in
-    let ei = entry_count inner in
-    let eo = entry_count others in
+    let ei = event_count inner in
+    let eo = event_count others in
     let m = suc k + ci in
     let A = nodes_of number_of (suc k) inner in
     let B = nodes_of number_of m others in
-    let t : TreeNode = record { row = number_of r; start = i; end = j; after = m } in
+    let t : TreeNode = record { rule = number_of r; start = i; end = j; after = m } in
     let o = opened t n in
-    let last = left_entries ts (k + suc (ci + co)) (n + (ei + 2 + eo)) os in
+    let last = left_events ts (k + suc (ci + co)) (n + (ei + 2 + eo)) os in
     let g1 : Goes (suc k) os = goes_less (suc k) (k + suc (ci + co)) os (omega arith) g in
     let g2 : Goes (m + co) os = goes_less (m + co) (k + suc (ci + co)) os (omega arith) g in
     let two = two_each inner in
     let p : n + 1 + 2 * (m - suc k) ≡ n + 1 + ei = omega arith in
-    let e0 : start_entry t k n ≡ Starts r i (n + 1 + ei) = ap₂ (λ w q. Starts w i q) h.0 p in
+    let e0 : start_event t k n ≡ Starts r i (n + 1 + ei) = ap₂ (λ w q. Starts w i q) h.0 p in
     let s1 = start_one t ((A ++ B) ++ ts) k n os g1 in
-    let s2 : left_entries ((A ++ B) ++ ts) (suc k) (suc n) (o ∷ os) ≡ left_entries (A ++ (B ++ ts)) (suc k) (n + 1) (o ∷ os) =
-    ap₂ (λ z q. left_entries z (suc k) q (o ∷ os)) (append_assoc A B ts) (omega arith) in
+    let s2 : left_events ((A ++ B) ++ ts) (suc k) (suc n) (o ∷ os) ≡ left_events (A ++ (B ++ ts)) (suc k) (n + 1) (o ∷ os) =
+    ap₂ (λ z q. left_events z (suc k) q (o ∷ os)) (append_assoc A B ts) (omega arith) in
     let s3 = write_over inner (suc k) (n + 1) (o ∷ os) (B ++ ts) h.1 (omega arith) in
     let s4 = end_one (B ++ ts) m (n + 1 + ei) o os (le_self m) in
     let e1 : suc (n + 1 + ei) ≡ n + 2 + ei = omega arith in
-    let s5 : left_entries (B ++ ts) m (suc (n + 1 + ei)) os ≡ entries_of (n + 2 + ei) others ++ left_entries ts (m + co) (n + 2 + ei + eo) os =
-    ap (λ q. left_entries (B ++ ts) m q os) e1 ∙ write_over others m (n + 2 + ei) os ts h.2 g2 in
-    let e2 : left_entries ts (m + co) (n + 2 + ei + eo) os ≡ last = ap₂ (λ a b. left_entries ts a b os) (omega arith) (omega arith) in
-    let inside = entries_of (n + 1) inner in
-    let behind = entries_of (n + 2 + ei) others in
-    s1 ∙ (ap (λ z. start_entry t k n ∷ z) (s2 ∙ (s3 ∙ ap (λ z. inside ++ z) (s4 ∙ ap (λ z. Ends j n ∷ z) (s5 ∙ ap (λ z. behind ++ z) e2))))
+    let s5 : left_events (B ++ ts) m (suc (n + 1 + ei)) os ≡ events_of (n + 2 + ei) others ++ left_events ts (m + co) (n + 2 + ei + eo) os =
+    ap (λ q. left_events (B ++ ts) m q os) e1 ∙ write_over others m (n + 2 + ei) os ts h.2 g2 in
+    let e2 : left_events ts (m + co) (n + 2 + ei + eo) os ≡ last = ap₂ (λ a b. left_events ts a b os) (omega arith) (omega arith) in
+    let inside = events_of (n + 1) inner in
+    let behind = events_of (n + 2 + ei) others in
+    s1 ∙ (ap (λ z. start_event t k n ∷ z) (s2 ∙ (s3 ∙ ap (λ z. inside ++ z) (s4 ∙ ap (λ z. Ends j n ∷ z) (s5 ∙ ap (λ z. behind ++ z) e2))))
     ∙ (ap (λ x. x ∷ (inside ++ Ends j n ∷ (behind ++ last))) e0
     ∙ ap (λ z. Starts r i (n + 1 + ei) ∷ z) (sym (append_assoc inside (Ends j n ∷ behind) last))))
 
--- all entries of trees
-pub all_written : (nodes : List TreeNode) (us : Trees) → AreNodesOf nodes us → left_entries nodes 0 0 [] ≡ entries_of 0 us
+-- all events of trees
+pub all_written : (nodes : List TreeNode) (us : Trees) → AreNodesOf nodes us → left_events nodes 0 0 [] ≡ events_of 0 us
 all_written nodes us x =
-    ap (λ ns. left_entries ns 0 0 []) (x.same ∙ sym (append-nil (nodes_of number_of 0 us)))
-    ∙ (write_over us 0 0 [] [] x.numbered tt ∙ append-nil (entries_of 0 us))
+    ap (λ ns. left_events ns 0 0 []) (x.same ∙ sym (append-nil (nodes_of number_of 0 us)))
+    ∙ (write_over us 0 0 [] [] x.numbered tt ∙ append-nil (events_of 0 us))
 
 -- one more node is written
-pub written_one : (t : TreeNode) (ts : List TreeNode) (k : ℕ) (es ended now : List Entry) (os left later : List Open) → ended ≡ es ++ closing k os → left ≡ left_open k os
-    → now ≡ ended ++ start_entry t k (length ended) ∷ [] → later ≡ opened t (length ended) ∷ left
-    → now ++ left_entries ts (suc k) (length now) later ≡ es ++ left_entries (t ∷ ts) k (length es) os
+pub written_one : (t : TreeNode) (ts : List TreeNode) (k : ℕ) (es ended now : List TokenEvent) (os left later : List Open) → ended ≡ es ++ closing k os → left ≡ left_open k os
+    → now ≡ ended ++ start_event t k (length ended) ∷ [] → later ≡ opened t (length ended) ∷ left
+    → now ++ left_events ts (suc k) (length now) later ≡ es ++ left_events (t ∷ ts) k (length es) os
 written_one t ts k es ended now os left later a b c d =
     let s = closing k os in
     let m = length es + length s in
     let l : length ended ≡ m = ap length a ∙ length-append es s in
-    let S = start_entry t k m in
-    let is_now : now ≡ (es ++ s) ++ S ∷ [] = c ∙ ap₂ (λ e q. e ++ start_entry t k q ∷ []) a l in
+    let S = start_event t k m in
+    let is_now : now ≡ (es ++ s) ++ S ∷ [] = c ∙ ap₂ (λ e q. e ++ start_event t k q ∷ []) a l in
     let is_later : later ≡ opened t m ∷ left_open k os = d ∙ ap₂ (λ q o. opened t q ∷ o) l b in
     let size : length now ≡ suc m = ap length is_now ∙ (length-append (es ++ s) (S ∷ []) ∙ omega (arith, length-append es s)) in
-    let L = left_entries ts (suc k) (suc m) (opened t m ∷ left_open k os) in
-    ap₂ (λ n o. n ++ left_entries ts (suc k) (length now) o) is_now is_later
-    ∙ (ap (λ q. ((es ++ s) ++ S ∷ []) ++ left_entries ts (suc k) q (opened t m ∷ left_open k os)) size
+    let L = left_events ts (suc k) (suc m) (opened t m ∷ left_open k os) in
+    ap₂ (λ n o. n ++ left_events ts (suc k) (length now) o) is_now is_later
+    ∙ (ap (λ q. ((es ++ s) ++ S ∷ []) ++ left_events ts (suc k) q (opened t m ∷ left_open k os)) size
     ∙ (append_assoc (es ++ s) (S ∷ []) L ∙ append_assoc es s (S ∷ L)))
 
 -- the end of one open tree is written
-pub ended_one : (k : ℕ) (t : Open) (old new : List Open) (es now : List Entry) → old ≡ t ∷ new → nat_le t.after k ≡ true → now ≡ es ++ Ends t.end t.first ∷ []
+pub ended_one : (k : ℕ) (t : Open) (old new : List Open) (es now : List TokenEvent) → old ≡ t ∷ new → nat_le t.after k ≡ true → now ≡ es ++ Ends t.end t.first ∷ []
     → (now ++ closing k new ≡ es ++ closing k old) × (left_open k new ≡ left_open k old)
 ended_one k t old new es now a b c =
     let e : closing k old ≡ Ends t.end t.first ∷ closing k new = ap (closing k) a ∙ ap (λ b. if b then Ends t.end t.first ∷ closing k new else []) b in
@@ -132,45 +132,45 @@ none_closing k [] h = (refl, refl)
 none_closing k (t ∷ ts) h = (ap (λ b. if b then Ends t.end t.first ∷ closing k ts else []) h, ap (λ b. if b then left_open k ts else t ∷ ts) h)
 
 -- no node is left
-pub all_ended : (nodes : List TreeNode) (k n : ℕ) (es now : List Entry) (os : List Open) → length nodes ≤ n → k ≡ n → now ≡ es ++ closing k os → now ≡ es ++ left_entries (drop n nodes) n (length es) os
+pub all_ended : (nodes : List TreeNode) (k n : ℕ) (es now : List TokenEvent) (os : List Open) → length nodes ≤ n → k ≡ n → now ≡ es ++ closing k os → now ≡ es ++ left_events (drop n nodes) n (length es) os
 all_ended nodes k n es now os l e c =
-    c ∙ ap₂ (λ m ts. es ++ left_entries ts m (length es) os) e (sym (drop_all n nodes l))
+    c ∙ ap₂ (λ m ts. es ++ left_events ts m (length es) os) e (sym (drop_all n nodes l))
 
--- all entries, from those before a node on
-abbrev all_left : TreeNode → List TreeNode → ℕ → List Entry → List Open → List Entry
-all_left t ts k es left = es ++ start_entry t k (length es) ∷ left_entries ts (suc k) (suc (length es)) (opened t (length es) ∷ left)
+-- all events, from those before a node on
+abbrev all_left : TreeNode → List TreeNode → ℕ → List TokenEvent → List Open → List TokenEvent
+all_left t ts k es left = es ++ start_event t k (length es) ∷ left_events ts (suc k) (suc (length es)) (opened t (length es) ∷ left)
 
-parted : (t : TreeNode) (ts : List TreeNode) (k : ℕ) (es : List Entry) (os : List Open) → es ++ left_entries (t ∷ ts) k (length es) os ≡ all_left t ts k (es ++ closing k os) (left_open k os)
+parted : (t : TreeNode) (ts : List TreeNode) (k : ℕ) (es : List TokenEvent) (os : List Open) → es ++ left_events (t ∷ ts) k (length es) os ≡ all_left t ts k (es ++ closing k os) (left_open k os)
 parted t ts k es os =
     let c = closing k os in
     let n = length (es ++ c) in
-    ap (λ m. es ++ (c ++ start_entry t k m ∷ left_entries ts (suc k) (suc m) (opened t m ∷ left_open k os))) (sym (length-append es c))
-    ∙ sym (append_assoc es c (start_entry t k n ∷ left_entries ts (suc k) (suc n) (opened t n ∷ left_open k os)))
+    ap (λ m. es ++ (c ++ start_event t k m ∷ left_events ts (suc k) (suc m) (opened t m ∷ left_open k os))) (sym (length-append es c))
+    ∙ sym (append_assoc es c (start_event t k n ∷ left_events ts (suc k) (suc n) (opened t n ∷ left_open k os)))
 
--- what is left depends on the open trees that end first through their entries alone
-same_left : (ts : List TreeNode) (k : ℕ) (es fs : List Entry) (os ps : List Open) → es ++ closing k os ≡ fs ++ closing k ps → left_open k os ≡ left_open k ps
-    → es ++ left_entries ts k (length es) os ≡ fs ++ left_entries ts k (length fs) ps
+-- what is left depends on the open trees that end first through their events alone
+same_left : (ts : List TreeNode) (k : ℕ) (es fs : List TokenEvent) (os ps : List Open) → es ++ closing k os ≡ fs ++ closing k ps → left_open k os ≡ left_open k ps
+    → es ++ left_events ts k (length es) os ≡ fs ++ left_events ts k (length fs) ps
 same_left [] k es fs os ps e l = e
 same_left (t ∷ ts) k es fs os ps e l = parted t ts k es os ∙ (ap₂ (λ all left. all_left t ts k all left) e l ∙ sym (parted t ts k fs ps))
 
 -- one more node is written, and its end, if it has no descendants
-pub written_on : (t : TreeNode) (ts : List TreeNode) (k : ℕ) (es ended now : List Entry) (os left later : List Open) → ended ≡ es ++ closing k os → left ≡ left_open k os
-    → now ++ closing (suc k) later ≡ (ended ++ start_entry t k (length ended) ∷ []) ++ closing (suc k) (opened t (length ended) ∷ left)
+pub written_on : (t : TreeNode) (ts : List TreeNode) (k : ℕ) (es ended now : List TokenEvent) (os left later : List Open) → ended ≡ es ++ closing k os → left ≡ left_open k os
+    → now ++ closing (suc k) later ≡ (ended ++ start_event t k (length ended) ∷ []) ++ closing (suc k) (opened t (length ended) ∷ left)
     → left_open (suc k) later ≡ left_open (suc k) (opened t (length ended) ∷ left)
-    → now ++ left_entries ts (suc k) (length now) later ≡ es ++ left_entries (t ∷ ts) k (length es) os
+    → now ++ left_events ts (suc k) (length now) later ≡ es ++ left_events (t ∷ ts) k (length es) os
 written_on t ts k es ended now os left later a b c d =
     let n = length ended in
-    same_left ts (suc k) now (ended ++ start_entry t k n ∷ []) later (opened t n ∷ left) c d
-    ∙ written_one t ts k es ended (ended ++ start_entry t k n ∷ []) os left (opened t n ∷ left) a b refl refl
+    same_left ts (suc k) now (ended ++ start_event t k n ∷ []) later (opened t n ∷ left) c d
+    ∙ written_one t ts k es ended (ended ++ start_event t k n ∷ []) os left (opened t n ∷ left) a b refl refl
 
 -- the same in a list of nodes
-pub written_at : (nodes : List TreeNode) (k n : ℕ) (d : TreeNode) (es ended now : List Entry) (os left later : List Open) → k < length nodes → n ≡ suc k
+pub written_at : (nodes : List TreeNode) (k n : ℕ) (d : TreeNode) (es ended now : List TokenEvent) (os left later : List Open) → k < length nodes → n ≡ suc k
     → ended ≡ es ++ closing k os → left ≡ left_open k os
-    → now ++ closing (suc k) later ≡ (ended ++ start_entry (get_or nodes k d) k (length ended) ∷ []) ++ closing (suc k) (opened (get_or nodes k d) (length ended) ∷ left)
+    → now ++ closing (suc k) later ≡ (ended ++ start_event (get_or nodes k d) k (length ended) ∷ []) ++ closing (suc k) (opened (get_or nodes k d) (length ended) ∷ left)
     → left_open (suc k) later ≡ left_open (suc k) (opened (get_or nodes k d) (length ended) ∷ left)
-    → now ++ left_entries (drop n nodes) n (length now) later ≡ es ++ left_entries (drop k nodes) k (length es) os
+    → now ++ left_events (drop n nodes) n (length now) later ≡ es ++ left_events (drop k nodes) k (length es) os
 written_at nodes k n d es ended now os left later l e a b f g =
     let t = get_or nodes k d in
-    ap (λ m. now ++ left_entries (drop m nodes) m (length now) later) e
+    ap (λ m. now ++ left_events (drop m nodes) m (length now) later) e
     ∙ (written_on t (drop (suc k) nodes) k es ended now os left later a b f g
-    ∙ ap (λ ts. es ++ left_entries ts k (length es) os) (sym (one_back nodes k (suc k) t l (get_or_default nodes k d t l) refl)))
+    ∙ ap (λ ts. es ++ left_events ts k (length es) os) (sym (one_back nodes k (suc k) t l (get_or_default nodes k d t l) refl)))

@@ -30,7 +30,7 @@ other_trees (suc n) (Tree r i j inner others) = other_trees n others
 -- the tree of a node, with so many of the trees after it inside it, and the others after it
 abbrev pub tree_around : TreeNode → ℕ → Trees → Trees
 tree_around t n us =
-    Tree (name_of (rule_numbered t.row)) t.start t.end (first_trees n us) (other_trees n us)
+    Tree (name_of (rule_numbered t.rule)) t.start t.end (first_trees n us) (other_trees n us)
 
 -- how many nodes the trees of nodes have each, where the first node has the number k
 abbrev pub sizes_from : ℕ → List TreeNode → List ℕ
@@ -47,5 +47,5 @@ trees_from k (t ∷ ts) =
 abbrev pub nodes_from : ℕ → List TreeNode → List TokenNode
 nodes_from k [] = []
 nodes_from k (t ∷ ts) =
-    record { rule = rule_numbered t.row; start = t.start; end = t.end; inner = t.after - suc k }
+    record { rule = rule_numbered t.rule; start = t.start; end = t.end; inner = t.after - suc k }
     ∷ nodes_from (suc k) ts

@@ -1,5 +1,5 @@
 pub mod Building
-pub mod Entries
+pub mod TokenEvents
 pub mod ExpectedRules
 pub mod Nodes
 pub mod Parses

@@ -4,7 +4,7 @@ use Rattle.base_language.specs.Language.State.{Trees, Failure, Classes}
 use Rattle.base_language.specs.Language.FurthestFailure.{furthest}
 use Rattle.base_language.specs.declared.grammar.Rule.{Rule}
 use Rattle.base_language.specs.declared.grammar.Rule.TheVariants as rule_is
-use Rattle.front_syntax.specs.declared.entries.Entry.{Entry}
+use Rattle.front_syntax.specs.declared.events.TokenEvent.{TokenEvent}
 use Rattle.base_language.specs.Pieces.NamedTrees.{named}
 use Rattle.base_language.specs.Pieces.Pairs.{pairs_text, pairs_trees}
 use Rattle.base_language.specs.Pieces.LineColumn.{line_column}
@@ -19,11 +19,11 @@ use Rattle.base_language.specs.declared.runtime.faults.Fault.TheVariants as faul
 use Rattle.front_grammar.specs.Outcomes.{Recognizes, Spells}
 use Rattle.front_nodes.specs.Forests.{forest_text, forest_trees}
 use Rattle.front_nodes.specs.declared.forest.Forest.{Forest}
-use Rattle.front_syntax.specs.Entries.{entries_of, named_entries}
+use Rattle.front_syntax.specs.TokenEvents.{events_of, named_events}
 
--- these are the entries of trees that the text spells
-abbrev pub AreTokensOf : Rule → List ℕ → List Entry → Type 0
-AreTokensOf rule text es = (us : Trees) × Spells rule text us × (named_entries es ≡ entries_of 0 us)
+-- these are the events of trees that the text spells
+abbrev pub AreTokensOf : Rule → List ℕ → List TokenEvent → Type 0
+AreTokensOf rule text es = (us : Trees) × Spells rule text us × (named_events es ≡ events_of 0 us)
 
 -- the pairs are all those that their text spells for the rule
 abbrev pub AreSpelled : Rule → Pairs Rule → Type 0

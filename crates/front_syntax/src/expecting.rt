@@ -4,7 +4,7 @@ ghost use Rattle.base_language.specs.Language.Text.{Text};
 ghost use Rattle.base_language.specs.Pieces.MetaRules.{name_of};
 ghost use Rattle.front_code.specs.Numbers.{number_of};
 ghost use Rattle.front_syntax.specs.ExpectedRules.{is_numbered, rules_named};
-ghost use Rattle.matcher_code.specs.Steps.{with_rows};
+ghost use Rattle.matcher_code.specs.Steps.{insert_rules};
 
 use base_language::grammar::Rule;
 use front_code::numbers::rule_number;
@@ -30,7 +30,7 @@ fn add_if_numbered(rules: &mut Vec<Rule>, numbers: &[u32], rule: Rule) -> Result
 
 /// Returns the rules of these numbers in the order of the meta-grammar, `EOI` first.
 pub(crate) fn rules_in_order(alloc: Global, numbers: &[u32]) -> Result<Vec<Rule>, AllocError>
-    ensures { (names : List Text) → numbers.now ≡ with_rows [] (map number_of names)
+    ensures { (names : List Text) → numbers.now ≡ insert_rules [] (map number_of names)
         → IfOk result (λ rules. rules.items ≡ rules_named names) }
 {
     let mut rules = Vec::new(alloc);

@@ -2,14 +2,14 @@
 ghost use Rattle.std.specs.Prelude.{◌≡◌, alloc_error, IfErr, IfOk, MatchResult};
 ghost use Rattle.std.specs.Str.{IsCharBoundary};
 ghost use Rattle.base_language.specs.Pieces.Pairs.{pairs_text};
-ghost use Rattle.front_syntax.specs.Entries.{IsWhole, named_entries};
+ghost use Rattle.front_syntax.specs.TokenEvents.{IsWhole, named_events};
 ghost use Rattle.front_syntax.specs.ExpectedRules.{AreExpected, ExpectsNothing};
 ghost use Rattle.front_syntax.specs.Nodes.{AreSpelledNodes};
 ghost use Rattle.front_nodes.specs.Forests.{forest_text};
 ghost use Rattle.front_syntax.specs.Parses.{AreSpelled, AreTokensOf, IsSpelled, IsSyntaxError, IsSyntaxErrorOrMemory, ParseRefuses};
 
-pub use crate::entries::Entry;
-use crate::entries::write_entries;
+pub use crate::events::TokenEvent;
+use crate::events::write_events;
 use crate::expecting::rules_in_order;
 use crate::trees::{build_trees, with_rules};
 pub use base_language::grammar::Rule;
@@ -55,18 +55,18 @@ impl PestParser {
     }
 
     /// Parses `text` by the rule `rule`, as `parse`. Returns the trees as one flat list, in text order: an
-    /// entry for the start of each tree and one for its end, each with the index of the other. Positions
+    /// event for the start of each tree and one for its end, each with the index of the other. Positions
     /// are in bytes.
     ///
     /// # Errors
     /// Those of `parse`.
-    pub fn tokens(alloc: Global, rule: Rule, text: &str) -> Result<Vec<Entry>, Fault>
+    pub fn tokens(alloc: Global, rule: Rule, text: &str) -> Result<Vec<TokenEvent>, Fault>
         ensures trees { MatchResult result
             (λ v. AreTokensOf rule text.now v.items) (ParseRefuses rule text.now) }
-        ensures whole { IfOk result (λ v. IsWhole 0 (named_entries v.items)) }
+        ensures whole { IfOk result (λ v. IsWhole 0 (named_events v.items)) }
     {
         let nodes = match_nodes(alloc, rule, text)?;
-        Ok(write_entries(alloc, &nodes)?)
+        Ok(write_events(alloc, &nodes)?)
     }
 
     /// Returns the rules that were expected at the position of the error of `parse`, each once, in the

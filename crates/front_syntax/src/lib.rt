@@ -1,7 +1,7 @@
 //! The parser of the meta-grammar.
 #![tactic(auto)]
 
-pub mod entries;
+pub mod events;
 mod expecting;
 pub mod grammar;
 pub mod trees;

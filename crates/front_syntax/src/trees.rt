@@ -92,7 +92,7 @@ fn add_tree(
     let count = take_sizes(sizes, size.saturating_sub(1));
     let inner = trees.split_off(trees.len() - count)?;
     trees.push(TokenTree::new(
-        rule_at(node.row),
+        rule_at(node.rule),
         node.start as usize,
         node.end as usize,
         inner,
@@ -130,7 +130,7 @@ pub(crate) fn with_rules(alloc: Global, nodes: &[TreeNode]) -> Result<Vec<TokenN
             .saturating_sub(number)
             .saturating_sub(1);
         all.push(TokenNode {
-            rule: rule_at(node.row),
+            rule: rule_at(node.rule),
             start: node.start,
             end: node.end,
             inner: inner as u32,

@@ -16,7 +16,7 @@ use Rattle.matcher_code.specs.Failures.{Failures, attempts_of, both, end_failure
 use Rattle.matcher_code.specs.declared.state.Places.{Places}
 use Rattle.matcher_code.specs.Paths.{told_paths}
 use Rattle.base_language.specs.Language.Expected.{told}
-use Rattle.matcher_code.specs.Reached.{rows_of}
+use Rattle.matcher_code.specs.Reached.{attempts_by_number}
 
 -- one more than before
 one_more : (y w : ℕ) → (y + w == suc y) ≡ (w == 1)
@@ -31,8 +31,8 @@ greatest_of : (a b c : ℕ) → max (max a b) c ≡ max a (max b c)
 greatest_of a b c = omega arith
 
 module _ (number : Text → ℕ) where
-  count_rows : (a : Attempts ℕ) (w : Attempts Text) → count (append a (rows_of number w)) ≡ count a + count w
-  count_rows a w =
+  count_rules : (a : Attempts ℕ) (w : Attempts Text) → count (append a (attempts_by_number number w)) ≡ count a + count w
+  count_rules a w =
       let p = length-append a.positives (map number w.positives) in
       let q = length-append a.negatives (map number w.negatives) in
       let i = length-map w.positives number in
@@ -41,31 +41,31 @@ module _ (number : Text → ℕ) where
 
   -- a call that ends behind others
   pub call_behind : (below : Bool) (place at : ℕ) (n : Text) (a : Attempts ℕ) (w : Attempts Text)
-      → after_call below place (number n) at a (append a (rows_of number w)) ≡ append a (rows_of number (after_call below place n at no_attempt w))
+      → after_call below place (number n) at a (append a (attempts_by_number number w)) ≡ append a (attempts_by_number number (after_call below place n at no_attempt w))
   call_behind below place at n a w =
-      ap (λ b. record (if at == place && not b then with_rule below (number n) a else append a (rows_of number w)) {
+      ap (λ b. record (if at == place && not b then with_rule below (number n) a else append a (attempts_by_number number w)) {
         furthest = max (max a.furthest w.furthest) (place_from place at);
-      }) (ap (λ k. k == suc (count a)) (count_rows a w) ∙ one_more (count a) (count w))
+      }) (ap (λ k. k == suc (count a)) (count_rules a w) ∙ one_more (count a) (count w))
       ∙ go (at == place && not (count w == 1)) below
     where
-      go : (b below : Bool) → record (if b then with_rule below (number n) a else append a (rows_of number w)) { furthest = max (max a.furthest w.furthest) (place_from place at) }
-          ≡ append a (rows_of number (record (if b then with_rule below n no_attempt else w) { furthest = max w.furthest (place_from place at) }))
+      go : (b below : Bool) → record (if b then with_rule below (number n) a else append a (attempts_by_number number w)) { furthest = max (max a.furthest w.furthest) (place_from place at) }
+          ≡ append a (attempts_by_number number (record (if b then with_rule below n no_attempt else w) { furthest = max w.furthest (place_from place at) }))
       go true true = same_attempts (greatest_of a.furthest w.furthest (place_from place at)) (sym (append-nil a.positives)) refl
       go true false = same_attempts (greatest_of a.furthest w.furthest (place_from place at)) refl (sym (append-nil a.negatives))
       go false below = same_attempts (greatest_of a.furthest w.furthest (place_from place at)) refl refl
 
   -- so it is of one that is told or not
   pub recorded_behind : (told below : Bool) (place at : ℕ) (n : Text) (a : Attempts ℕ) (w : Attempts Text)
-      → (if told then after_call below place (number n) at a (append a (rows_of number w)) else append a (rows_of number w))
-      ≡ append a (rows_of number (if told then after_call below place n at no_attempt w else w))
+      → (if told then after_call below place (number n) at a (append a (attempts_by_number number w)) else append a (attempts_by_number number w))
+      ≡ append a (attempts_by_number number (if told then after_call below place n at no_attempt w else w))
   recorded_behind true below place at n a w = call_behind below place at n a w
   recorded_behind false below place at n a w = refl
 
-  pub append_none : (a : Attempts ℕ) → append a (rows_of number no_attempt) ≡ a
+  pub append_none : (a : Attempts ℕ) → append a (attempts_by_number number no_attempt) ≡ a
   append_none a = let m : max a.furthest 0 ≡ a.furthest = omega arith in same_attempts m (append-nil a.positives) (append-nil a.negatives)
 
   pub append_twice : (a : Attempts ℕ) (v w : Attempts Text)
-      → append (append a (rows_of number v)) (rows_of number w) ≡ append a (rows_of number (append v w))
+      → append (append a (attempts_by_number number v)) (attempts_by_number number w) ≡ append a (attempts_by_number number (append v w))
   append_twice a v w =
       same_attempts (greatest_of a.furthest v.furthest w.furthest) (twice a.positives v.positives w.positives) (twice a.negatives v.negatives w.negatives)
     where

@@ -68,14 +68,14 @@ module _ (g : Grammar) (classes : Classes) where
   stays_known part.tag k = λ x p. k x (of_tag p)
   stays_known part.restore k = λ x p. k x (of_restore p)
   stays_known part.seq k = λ x p. k x (of_seq_left p)
-  stays_known (part.seq_gap d) k = tt
+  stays_known (part.seq_trivia d) k = tt
   stays_known (part.seq_second d f) k = λ x p. k x (of_seq_right p)
   stays_known part.left k = λ x p. k x (of_choice_left p)
   stays_known (part.right d) k = λ x p. k x (of_choice_right p)
   stays_known part.opt k = λ x p. k x (of_opt p)
   stays_known part.rep k = λ x p. k x (of_rep p)
   stays_known (part.rep_turns d) k = λ x p. k x (of_rep p)
-  stays_known part.turn_gap k = tt
+  stays_known part.turn_trivia k = tt
   stays_known (part.turn f) k = k
   stays_known (part.more_turns f d) k = k
   stays_known (part.rep_once {e = e}) k =

@@ -22,7 +22,7 @@ pub mod Until
 pub mod Stacks
 pub mod Between
 pub mod StackReads
-pub mod Gaps
+pub mod Trivia
 pub mod CalledReads
 pub mod Searching
 pub mod Pieces

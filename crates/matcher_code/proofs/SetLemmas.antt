@@ -1,4 +1,4 @@
--- Sets of characters, by rows of flags.
+-- Sets of characters, by sets of flags.
 use Rattle.std.proofs.Common.{◌≡◌, ℕ, zero, suc, ◌+◌, ◌*◌, ◌<◌, ◌≤◌, ◌&&◌, ◌||◌, List, [], ◌∷◌, ◌++◌, Bool, true, false, inl, inr, refl, ap, sym, ◌∙◌, ◌⊎◌, get_or, length, map, nat_lt, take, chars, arith, if◌then◌else◌}
 use Rattle.std.specs.Prelude.{encode_utf8_all}
 use Rattle.std.proofs.lemmas.Bool.{cases_lt}
@@ -8,7 +8,7 @@ use Rattle.std.proofs.lemmas.Str.{char_from_byte, encodes-chars, len_utf8_ascii,
 use Rattle.base_language.specs.Language.Builtins.{is_between}
 use Rattle.matcher_code.specs.Lists.{CodeLists, is_covered}
 use Rattle.matcher_code.specs.Reading.{char_len, first_of, flag, len_among, no_characters, set_of}
-use Rattle.matcher_code.specs.Sets.{IsRowOf, IsSetOf, flag_of}
+use Rattle.matcher_code.specs.Sets.{IsByteSetOf, IsSetOf, flag_of}
 
 -- a text that begins with a byte of ASCII begins with that character
 first_of_ascii : (ranges : List (ℕ × ℕ)) (cs : List ℕ) (b : ℕ) (bs : List ℕ) → encode_utf8_all cs ≡ b ∷ bs → b < 128
@@ -61,13 +61,13 @@ last_mapped p xs ys x n e h =
     let l : length (map p xs) ≡ n = simp length-map (sym h) in
     rw (e, map-append) (ap (λ i. get_or (map p xs ++ p x ∷ []) i no_characters) (sym l) ∙ get_or-append_seam (map p xs) (p x) [] no_characters)
 
--- a set whose row was added behind the others
-pub set_added : (new : CodeLists) (rows row : List ℕ) (ranges : List (ℕ × ℕ)) (set : ℕ) → new.rows ≡ rows ++ row
-    → length rows ≡ set * 256 → IsRowOf ranges row → set_of new set ≡ is_covered ranges → IsSetOf new set ranges
-set_added new rows row ranges set e l w r =
+-- a set whose byte_set was added behind the others
+pub set_added : (new : CodeLists) (sets byte_set : List ℕ) (ranges : List (ℕ × ℕ)) (set : ℕ) → new.sets ≡ sets ++ byte_set
+    → length sets ≡ set * 256 → IsByteSetOf ranges byte_set → set_of new set ≡ is_covered ranges → IsSetOf new set ranges
+set_added new sets byte_set ranges set e l w r =
     means_ranges new set ranges r (λ b h.
     ap (λ items. get_or items (set * 256 + b) 0) e
-    ∙ (ap (λ n. get_or (rows ++ row) (n + b) 0) (sym l) ∙ (get_or-append-add rows row b 0 ∙ w.told b h)))
+    ∙ (ap (λ n. get_or (sets ++ byte_set) (n + b) 0) (sym l) ∙ (get_or-append-add sets byte_set b 0 ∙ w.told b h)))
 
 or_assoc : (a b c : Bool) → (a || (b || c)) ≡ ((a || b) || c)
 or_assoc true b c = refl
@@ -93,11 +93,11 @@ marked true false n e = e
 marked false true n e = refl
 marked false false n e = e
 
-pub row_more : (ranges : List (ℕ × ℕ)) (i j : ℕ) (d : ℕ × ℕ) (old new : List ℕ) → i < length ranges → j ≡ suc i → IsRowOf (take i ranges) old
+pub rule_more : (ranges : List (ℕ × ℕ)) (i j : ℕ) (d : ℕ × ℕ) (old new : List ℕ) → i < length ranges → j ≡ suc i → IsByteSetOf (take i ranges) old
     → length new ≡ 256 → ((b : ℕ) → get_or new b 0
     ≡ (if nat_lt b 128 && is_between (get_or ranges i d).0 (get_or ranges i d).1 b then 1 else get_or old b 0))
-    → IsRowOf (take j ranges) new
-row_more ranges i j d old new h e r l marks = record {
+    → IsByteSetOf (take j ranges) new
+rule_more ranges i j d old new h e r l marks = record {
   long = l;
   told = λ b k. go b k (cases_lt b 128) ∙ ap (λ n. flag_of (take n ranges) b) (sym e);
 }

@@ -24,9 +24,9 @@ module _ (number : Text → ℕ) where
       let front = nodes_of number (suc n) inner in
       let k = suc n + count_of inner in
       let m : k + count_of others ≡ n + suc (count_of inner + count_of others) = omega arith in
-      ap (λ ns. record { row = number r; start = i; end = j; after = k } ∷ (front ++ ns))
+      ap (λ ns. record { rule = number r; start = i; end = j; after = k } ∷ (front ++ ns))
       (nodes_joined k others vs ∙ ap (λ x. nodes_of number k others ++ nodes_of number x vs) m)
-      ∙ ap (λ ns. record { row = number r; start = i; end = j; after = k } ∷ ns)
+      ∙ ap (λ ns. record { rule = number r; start = i; end = j; after = k } ∷ ns)
       (sym (append_assoc front (nodes_of number k others) (nodes_of number (n + suc (count_of inner + count_of others)) vs)))
 
   -- trees behind others
@@ -41,11 +41,11 @@ module _ (number : Text → ℕ) where
       ∙ ap (λ x. ns ++ x) (sym (nodes_joined (length ns) us vs)))
 
   close_at_seam : (ns ms : List TreeNode) (x : TreeNode) (at : ℕ) → close_tree (length ns) at (ns ++ x ∷ ms)
-      ≡ ns ++ record { row = x.row; start = x.start; end = at; after = length (ns ++ x ∷ ms) } ∷ ms
+      ≡ ns ++ record { rule = x.rule; start = x.start; end = at; after = length (ns ++ x ∷ ms) } ∷ ms
   close_at_seam ns ms x at =
-      ap (λ y. slice_set (ns ++ x ∷ ms) (length ns) (record { row = y.row; start = y.start; end = at; after = length (ns ++ x ∷ ms) }))
+      ap (λ y. slice_set (ns ++ x ∷ ms) (length ns) (record { rule = y.rule; start = y.start; end = at; after = length (ns ++ x ∷ ms) }))
       (get_or-append_seam ns x ms no_tree)
-      ∙ set-append_seam ns x ms (record { row = x.row; start = x.start; end = at; after = length (ns ++ x ∷ ms) })
+      ∙ set-append_seam ns x ms (record { rule = x.rule; start = x.start; end = at; after = length (ns ++ x ∷ ms) })
 
   -- the tree of a call that is found
   pub nodes_of_call : (ns : List TreeNode) (r : Text) (from at : ℕ) (us : Trees)
@@ -61,4 +61,4 @@ module _ (number : Text → ℕ) where
       omega (arith, length-append ns (x ∷ ms), nodes_count (suc (length ns)) us) in
       ap (close_tree (length ns) at) a
       ∙ (close_at_seam ns ms x at
-      ∙ ap₂ (λ k t. ns ++ record { row = number r; start = from; end = at; after = k } ∷ t) m (sym (append-nil ms)))
+      ∙ ap₂ (λ k t. ns ++ record { rule = number r; start = from; end = at; after = k } ∷ t) m (sym (append-nil ms)))

@@ -18,7 +18,7 @@ module _ (g : Grammar) (classes : Classes) where
     tag : {m : Mode} {e : Expression} {x : Text} {s : State} → Begins (Run m (NodeTag e x)) s 1 (Run m e) s
     restore : {m : Mode} {e : Expression} {s : State} → Begins (Run m (RestoreOnErr e)) s 1 (Run m e) s
     seq : {m : Mode} {a b : Expression} {s : State} → Begins (Run m (Seq a b)) s 1 (Run m a) s
-    seq_gap : {m : Mode} {a b : Expression} {s t : State} {us : Trees}
+    seq_trivia : {m : Mode} {a b : Expression} {s t : State} {us : Trees}
         (d : Does g classes (Run m a) s (Success t us))
         → Begins (Run m (Seq a b)) s (1 + size d) (Skipping m) t
     seq_second : {m : Mode} {a b : Expression} {s t u : State} {us vs : Trees}
@@ -31,7 +31,7 @@ module _ (g : Grammar) (classes : Classes) where
     rep : {m : Mode} {e : Expression} {s : State} → Begins (Run m (Rep e)) s 1 (Run m e) s
     rep_turns : {m : Mode} {e : Expression} {s t : State} {us : Trees}
         (d : Does g classes (Run m e) s (Success t us)) → Begins (Run m (Rep e)) s (1 + size d) (Turns m e) t
-    turn_gap : {m : Mode} {e : Expression} {s : State} → Begins (Turns m e) s 1 (Skipping m) s
+    turn_trivia : {m : Mode} {e : Expression} {s : State} → Begins (Turns m e) s 1 (Skipping m) s
     turn : {m : Mode} {e : Expression} {s t : State} {us : Trees}
         (k : Does g classes (Skipping m) s (Success t us)) → Begins (Turns m e) s (1 + size k) (Run m e) t
     more_turns : {m : Mode} {e : Expression} {s t u : State} {us vs : Trees}

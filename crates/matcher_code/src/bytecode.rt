@@ -13,7 +13,7 @@ use crate::operations::read_op;
 #[derive(Clone, Copy)]
 pub struct Bytecode<'a> {
     pub ops: &'a [[u8; 20]],
-    pub rows: &'a [u8],
+    pub byte_sets: &'a [u8],
     pub tables: &'a [[u8; 4]],
     pub set_places: &'a [[u8; 4]],
     pub ranges: &'a [[u8; 8]],

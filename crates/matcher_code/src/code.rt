@@ -6,13 +6,13 @@ use crate::ranges::RangeList;
 /// success, `fail` for failure.
 #[derive(Clone, Copy, Debug)]
 pub enum Op {
-    /// Fails: pops a slot and goes to its `fail`.
+    /// Fails: pops a frame and goes to its `fail`.
     Fail,
-    /// Calls the operations from `to` on for the rule of a row, with a tree. If `counts` is set, a failure of
-    /// the call is recorded.
+    /// Calls the operations from `to` on for the rule numbered `rule`, with a tree. If `counts` is set, a
+    /// failure of the call is recorded.
     Call {
         to: u32,
-        row: u32,
+        rule: u32,
         next: u32,
         fail: u32,
         counts: bool,
@@ -49,9 +49,9 @@ pub enum Op {
         set: u32,
         next: u32,
     },
-    /// Takes all characters of a set, and goes to `slow` if the byte after them has a flag in the row
+    /// Takes all characters of a set, and goes to `slow` if the byte after them has a flag in the byte set
     /// `stops`.
-    Gap {
+    Trivia {
         set: u32,
         stops: u32,
         next: u32,
@@ -70,7 +70,7 @@ pub enum Op {
         fail: u32,
     },
     /// Goes forward to the first occurrence of one of some texts, or to the end. Only positions whose byte
-    /// has a flag in the row `firsts` count.
+    /// has a flag in the byte set `firsts` count.
     Until {
         firsts: u32,
         list: u32,
@@ -84,21 +84,21 @@ pub enum Op {
         next: u32,
         fail: u32,
     },
-    /// Pushes a slot with the state here, which a later failure restores.
+    /// Pushes a frame with the state here, which a later failure restores.
     Try {
         next: u32,
         fail: u32,
     },
-    /// Pushes a slot as `Try`, whose end takes back the names that were expected since.
+    /// Pushes a frame as `Try`, whose end takes back the names that were expected since.
     Not {
         next: u32,
         fail: u32,
     },
-    /// Pops the last slot, and keeps the state.
+    /// Pops the last frame, and keeps the state.
     Commit {
         next: u32,
     },
-    /// Pops the last slot, and restores its state.
+    /// Pops the last frame, and restores its state.
     Ahead {
         next: u32,
     },
@@ -108,7 +108,7 @@ pub enum Op {
     },
     /// Records a failure of a call of a rule here, which is expected.
     Miss {
-        row: u32,
+        rule: u32,
         next: u32,
     },
     /// Checks whether this is the start of the text.
@@ -121,12 +121,12 @@ pub enum Op {
         next: u32,
         fail: u32,
     },
-    /// Adds a tree of a row, without width and descendants.
+    /// Adds a tree of a rule, without width and descendants.
     Leaf {
-        row: u32,
+        rule: u32,
         next: u32,
     },
-    /// Pops the last slot, and pushes the text from its position to here on the stack.
+    /// Pops the last frame, and pushes the text from its position to here on the stack.
     Push {
         next: u32,
     },
@@ -177,10 +177,10 @@ pub enum Op {
 #[derive(Drop)]
 pub struct Code {
     pub ops: Vec<Op>,
-    /// Rows of 256 flags, one for each byte: 0 if no character of the set begins with it; the length of a
-    /// character that does; or more than 4, if the set's ranges decide.
-    pub rows: Vec<u8>,
-    /// The ranges of the set of each row.
+    /// Byte sets of 256 flags, one for each byte: 0 if no character of the set begins with it; the length of
+    /// a character that does; or more than 4, if the set's ranges decide.
+    pub byte_sets: Vec<u8>,
+    /// The ranges of each set.
     pub ranges: Vec<RangeList>,
     /// Tables of 257 numbers of operations, for each byte and for the end.
     pub tables: Vec<u32>,

@@ -27,8 +27,8 @@ ghost use Rattle.matcher_code.specs.Sizes.{least_steps, size};
 
 /// If the operation 0 is `Fail` and each point of a list is laid by points of the list, the code of a
 /// point does its task: from each state, and for each outcome of the task there, the machine comes to where
-/// the outcome goes on, with its trees, the furthest position of its failures and the rows of the names that
-/// are expected where they are asked for, in at most eight steps for each rule of the relation of matching
+/// the outcome goes on, with its trees, the furthest position of its failures and the numbers of the names
+/// that are expected where they are asked for, in at most eight steps for each rule of the relation of matching
 /// that the derivation applies. Code that is not exact is asked for nothing at any place of the text.
 pub fn laid_code_does_its_task()
     ensures { (exact : Bool) (g : Grammar) (classes : Classes) (code : CodeLists) (number : Text → ℕ)
@@ -50,7 +50,7 @@ pub fn runs_that_end_have_outcomes()
 
 /// In such code, let a point go on at `Halt`, and at `Lose` where its task fails. A run from the start of a
 /// text that comes to `Halt` has the end and the trees of the task's success; one that comes to `Lose` has
-/// the furthest failure of its failure; both have the rows of the names that are expected where they
+/// the furthest failure of its failure; both have the numbers of the names that are expected where they
 /// are asked for; and one that has not ended has taken fewer than eight steps for each rule of the relation
 /// of matching that any derivation applies.
 pub fn runs_have_results()

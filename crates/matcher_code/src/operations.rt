@@ -34,7 +34,7 @@ fn op_of(words: [u32; 5]) -> Op
             fail: c,
         },
         9 => Op::All { set: a, next: b },
-        10 => Op::Gap {
+        10 => Op::Trivia {
             set: a,
             stops: b,
             next: c,
@@ -61,7 +61,7 @@ fn op_of(words: [u32; 5]) -> Op
         17 => Op::Note { next: a },
         18 => Op::Start { next: a, fail: b },
         19 => Op::End { next: a, fail: b },
-        20 => Op::Leaf { row: a, next: b },
+        20 => Op::Leaf { rule: a, next: b },
         21 => Op::Nested {
             opening: a,
             closing: b,
@@ -89,18 +89,18 @@ fn op_of(words: [u32; 5]) -> Op
         },
         31 => Op::Halt,
         32 => Op::Not { next: a, fail: b },
-        33 => Op::Miss { row: a, next: b },
+        33 => Op::Miss { rule: a, next: b },
         _ => Op::Lose,
     }
 }
 
 /// Returns a call.
-fn call(to: u32, row: u32, next: u32, fail: u32, counts: bool) -> Op
-    ensures { result ≡ op.Call to row next fail counts }
+fn call(to: u32, rule: u32, next: u32, fail: u32, counts: bool) -> Op
+    ensures { result ≡ op.Call to rule next fail counts }
 {
     Op::Call {
         to,
-        row,
+        rule,
         next,
         fail,
         counts,

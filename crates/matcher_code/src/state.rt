@@ -5,16 +5,16 @@
 #[repr(C)]
 #[derive(Clone, Copy, Debug)]
 pub struct TreeNode {
-    pub row: u32,
+    pub rule: u32,
     pub start: u32,
     pub end: u32,
     pub after: u32,
 }
 
-/// A call that counts: the row of its rule, and the position, in bytes, where it begins.
+/// A call that counts: the number of its rule, and the position, in bytes, where it begins.
 #[derive(Clone, Copy, Debug, PartialEq, Eq)]
 pub struct OpenCall {
-    pub row: u32,
+    pub rule: u32,
     pub start: usize,
 }
 

@@ -53,7 +53,7 @@ meets_plan p plan code ends met sets texts lists = record {
 }
 
 abbrev some_point : Point
-some_point = record { part = part.Gap; at = record { mode = mode.Atomic; label = 0; next = 0; on_fail = 0; rank = 0; around = 0 } }
+some_point = record { part = part.Trivia; at = record { mode = mode.Atomic; label = 0; next = 0; on_fail = 0; rank = 0; around = 0 } }
 
 -- the same point
 laid_as : (exact : Bool) (p : Program) (classes : Classes) (code : CodeLists) (laid : List lay.Point) (x : Point) (k : Task) (l n w rank : ℕ)
@@ -66,7 +66,7 @@ laid_as exact p classes code laid x k l n w rank e y =
 
 pub code_of : (p : Program) (plan : Plan) (code : CodeLists) → HasEnds code → Meets p plan code (map (laid_point p) plan.points.items)
     → ((i : ℕ) (d : Point) → i < length plan.points.items → LaysPoint p plan (get_or plan.points.items i d))
-    → HasEntries p plan (length p.rows.items) → IsCodeOf (is_exact code) p code
+    → HasEntries p plan (length p.rules.items) → IsCodeOf (is_exact code) p code
 code_of p plan code ends m lays entries = record {
   ends = ends;
   points = map (laid_point p) plan.points.items;
@@ -86,12 +86,12 @@ none_bound p plan e i d h =
 
 pub entries_more : (p : Program) (old new : Plan) (n : ℕ) → IsLater p old new → HasEntries p old n
     → ((code : CodeLists) (laid : List lay.Point) → Meets p new code laid
-    → IsPoint laid (Run NonAtomicMode (Ident (name_at (names_of p.rows.items) n))) (n + 3) 1 2) → HasEntries p new (n + 1)
+    → IsPoint laid (Run NonAtomicMode (Ident (name_at (names_of p.rules.items) n))) (n + 3) 1 2) → HasEntries p new (n + 1)
 entries_more p old new n later has one code laid m i h = elim (cases_lt i n) [
   | inl k ↦ has code laid (later.met code laid m) i k
   | inr k ↦
       let e : n ≡ i = omega (arith, h, k) in
-      subst (λ j. IsPoint laid (Run NonAtomicMode (Ident (name_at (names_of p.rows.items) j))) (j + 3) 1 2) e (one code laid m)
+      subst (λ j. IsPoint laid (Run NonAtomicMode (Ident (name_at (names_of p.rules.items) j))) (j + 3) 1 2) e (one code laid m)
 ]
 
 same_default : (xs : List Point) (j : ℕ) (a b : Point) → j < length xs → get_or xs j a ≡ get_or xs j b

@@ -3,12 +3,12 @@ use Rattle.std.proofs.Common.{◌≡◌, refl, ap, ap₂, subst, ◌+◌, ◌≤
 use Rattle.base_language.specs.Language.Text.{Text}
 use Rattle.matcher_code.specs.Lists.{CodeLists}
 use Rattle.matcher_code.specs.StackUses.{is_stackless}
-use Rattle.matcher_program.specs.Programs.{expression_of, grammar_of, names_of, rule_of_row}
+use Rattle.matcher_program.specs.Programs.{expression_of, grammar_of, names_of, grammar_rule}
 use Rattle.matcher_program.specs.declared.form.Form.{Form}
 use Rattle.matcher_program.specs.declared.form.Form.TheVariants as form
 use Rattle.matcher_program.specs.declared.form.Program.{Program}
-use Rattle.matcher_program.specs.declared.form.Row.{Row}
-use Rattle.matcher_compiler.specs.Extents.{IsFitting, count_forms, count_parts, count_rows, grammar_size, grammar_stack, has_stack, most_operations, names_stack, rows_stack}
+use Rattle.matcher_program.specs.declared.form.ProgramRule.{ProgramRule}
+use Rattle.matcher_compiler.specs.Extents.{IsFitting, count_forms, count_parts, count_program_rules, grammar_size, grammar_stack, has_stack, most_operations, names_stack, program_rules_stack}
 
 neither : (a b : Bool) → a || b ≡ false → (a ≡ false) × (b ≡ false)
 neither true b e = cc
@@ -58,19 +58,19 @@ module _ (names : List Text) where
   stackless (form.PeekSlice i j) e = let z : true ≡ false = e in cc
   stackless _ e = refl
 
-  rows_counted : (rs : List Row) → count_rows rs ≡ grammar_size (map (rule_of_row names) rs)
-  rows_counted [] = refl
-  rows_counted (r ∷ rs) = ap₂ (λ n m. n + 1 + m) (counted r.body) (rows_counted rs)
+  rules_counted : (rs : List ProgramRule) → count_program_rules rs ≡ grammar_size (map (grammar_rule names) rs)
+  rules_counted [] = refl
+  rules_counted (r ∷ rs) = ap₂ (λ n m. n + 1 + m) (counted r.body) (rules_counted rs)
 
-  rows_stackless : (rs : List Row) → grammar_stack (map (rule_of_row names) rs) ≡ false → rows_stack rs ≡ false
-  rows_stackless [] e = refl
-  rows_stackless (r ∷ rs) e =
-      let n = neither (names_stack (expression_of names r.body)) (grammar_stack (map (rule_of_row names) rs)) e in
-      both (has_stack r.body) (rows_stack rs) (stackless r.body n.0) (rows_stackless rs n.1)
+  program_rules_stackless : (rs : List ProgramRule) → grammar_stack (map (grammar_rule names) rs) ≡ false → program_rules_stack rs ≡ false
+  program_rules_stackless [] e = refl
+  program_rules_stackless (r ∷ rs) e =
+      let n = neither (names_stack (expression_of names r.body)) (grammar_stack (map (grammar_rule names) rs)) e in
+      both (has_stack r.body) (program_rules_stack rs) (stackless r.body n.0) (program_rules_stackless rs n.1)
 
-pub code_stackless : (p : Program) (code : CodeLists) → IsFitting p code → grammar_stack (grammar_of p.rows.items) ≡ false → is_stackless code ≡ true
-code_stackless p code fits e = fits.stackless (rows_stackless (names_of p.rows.items) p.rows.items e)
+pub code_stackless : (p : Program) (code : CodeLists) → IsFitting p code → grammar_stack (grammar_of p.rules.items) ≡ false → is_stackless code ≡ true
+code_stackless p code fits e = fits.stackless (program_rules_stackless (names_of p.rules.items) p.rules.items e)
 
-pub code_linear : (p : Program) (code : CodeLists) → IsFitting p code → length code.ops ≤ most_operations (grammar_size (grammar_of p.rows.items))
+pub code_linear : (p : Program) (code : CodeLists) → IsFitting p code → length code.ops ≤ most_operations (grammar_size (grammar_of p.rules.items))
 code_linear p code fits =
-    subst (λ n. length code.ops ≤ most_operations n) (rows_counted (names_of p.rows.items) p.rows.items) fits.small
+    subst (λ n. length code.ops ≤ most_operations n) (rules_counted (names_of p.rules.items) p.rules.items) fits.small

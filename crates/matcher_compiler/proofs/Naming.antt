@@ -1,12 +1,12 @@
--- The last row of a name, by a search from the end.
+-- The last program rule of a name, by a search from the end.
 use Rattle.std.proofs.Common.{◌≡◌, ◌∙◌, ap, refl, sym, subst, Bool, Option, if◌then◌else◌, ℕ, zero, ◌+◌, ◌<◌, suc, List, [], ◌∷◌, None, Some, arith, bytes_eq, drop, false, get_or, length, map, true}
 use Rattle.std.proofs.lemmas.List.{get_or-map, length-map}
 use Rattle.std.proofs.lemmas.Slice.Eq.{bytes_eq-Decides}
 use Rattle.base_ast.specs.Ast.{text_of}
 use Rattle.base_language.specs.Language.Expression.{Grammar, Rule, last_place, rule_of}
 use Rattle.base_language.specs.Language.Text.{Text}
-use Rattle.matcher_program.specs.declared.form.Row.{Row}
-use Rattle.matcher_program.specs.Programs.{IsRuleOf, grammar_of, name_at, names_of, rule_of_row}
+use Rattle.matcher_program.specs.declared.form.ProgramRule.{ProgramRule}
+use Rattle.matcher_program.specs.Programs.{IsRuleOf, grammar_of, name_at, names_of, grammar_rule}
 use Rattle.matcher_sets.specs.Forms.{no_rule}
 use Rattle.matcher_compiler.specs.Names.{IsLast}
 
@@ -26,32 +26,32 @@ drop_all : (g : Grammar) → drop (length g) g ≡ []
 drop_all [] = refl
 drop_all (r ∷ g) = drop_all g
 
-pub none_at_end : (rows : List Row) (k : ℕ) (n : Text) → k ≡ length rows → last_place (drop k (grammar_of rows)) n ≡ None
-none_at_end rows k n e =
-    let l : k ≡ length (grammar_of rows) = e ∙ sym (length-map rows (rule_of_row (names_of rows))) in
-    rw (l, drop_all (grammar_of rows)) refl
+pub none_at_end : (program_rules : List ProgramRule) (k : ℕ) (n : Text) → k ≡ length program_rules → last_place (drop k (grammar_of program_rules)) n ≡ None
+none_at_end program_rules k n e =
+    let l : k ≡ length (grammar_of program_rules) = e ∙ sym (length-map program_rules (grammar_rule (names_of program_rules))) in
+    rw (l, drop_all (grammar_of program_rules)) refl
 
--- one row more was looked at
-module _ (rows : List Row) (below next : ℕ) (row : Row) (n : Text) (e : next + 1 ≡ below) (l : next < length rows) (is : row ≡ get_or rows next row) (u : last_place (drop below (grammar_of rows)) n ≡ None) where
-  within : next < length (grammar_of rows)
-  within = omega (arith, l, length-map rows (rule_of_row (names_of rows)))
+-- one program rule more was looked at
+module _ (program_rules : List ProgramRule) (below next : ℕ) (program_rule : ProgramRule) (n : Text) (e : next + 1 ≡ below) (l : next < length program_rules) (is : program_rule ≡ get_or program_rules next program_rule) (u : last_place (drop below (grammar_of program_rules)) n ≡ None) where
+  within : next < length (grammar_of program_rules)
+  within = omega (arith, l, length-map program_rules (grammar_rule (names_of program_rules)))
 
-  at_next : get_or (grammar_of rows) next (rule_of_row (names_of rows) row) ≡ rule_of_row (names_of rows) row
-  at_next = get_or-map (rule_of_row (names_of rows)) rows next row (rule_of_row (names_of rows) row) l ∙ ap (rule_of_row (names_of rows)) (sym is)
+  at_next : get_or (grammar_of program_rules) next (grammar_rule (names_of program_rules) program_rule) ≡ grammar_rule (names_of program_rules) program_rule
+  at_next = get_or-map (grammar_rule (names_of program_rules)) program_rules next program_rule (grammar_rule (names_of program_rules) program_rule) l ∙ ap (grammar_rule (names_of program_rules)) (sym is)
 
-  after : last_place (drop (suc next) (grammar_of rows)) n ≡ None
+  after : last_place (drop (suc next) (grammar_of program_rules)) n ≡ None
   after = let k : suc next ≡ below = omega (arith, e) in rw k u
 
-  pub not_that_name : bytes_eq (text_of row.name) n ≡ false → last_place (drop next (grammar_of rows)) n ≡ None
-  not_that_name h = none_yet (grammar_of rows) next (rule_of_row (names_of rows) row) n within after (ap (λ r. bytes_eq r.name n) at_next ∙ h)
+  pub not_that_name : bytes_eq (text_of program_rule.name) n ≡ false → last_place (drop next (grammar_of program_rules)) n ≡ None
+  not_that_name h = none_yet (grammar_of program_rules) next (grammar_rule (names_of program_rules) program_rule) n within after (ap (λ r. bytes_eq r.name n) at_next ∙ h)
 
-  pub that_name : bytes_eq (text_of row.name) n ≡ true → last_place (grammar_of rows) n ≡ Some next
-  that_name h = last_found (grammar_of rows) next (rule_of_row (names_of rows) row) n within after (ap (λ r. bytes_eq r.name n) at_next ∙ h)
+  pub that_name : bytes_eq (text_of program_rule.name) n ≡ true → last_place (grammar_of program_rules) n ≡ Some next
+  that_name h = last_found (grammar_of program_rules) next (grammar_rule (names_of program_rules) program_rule) n within after (ap (λ r. bytes_eq r.name n) at_next ∙ h)
 
-  pub that_row : text_of row.name ≡ n → IsLast rows next
-  that_row h =
-      let named : name_at (names_of rows) next ≡ n = get_or-map (λ r. text_of r.name) rows next row [] l ∙ (ap (λ r. text_of r.name) (sym is) ∙ h) in
-      ap (last_place (grammar_of rows)) named ∙ that_name ((bytes_eq-Decides (text_of row.name) n).1 h)
+  pub that_rule : text_of program_rule.name ≡ n → IsLast program_rules next
+  that_rule h =
+      let named : name_at (names_of program_rules) next ≡ n = get_or-map (λ r. text_of r.name) program_rules next program_rule [] l ∙ (ap (λ r. text_of r.name) (sym is) ∙ h) in
+      ap (last_place (grammar_of program_rules)) named ∙ that_name ((bytes_eq-Decides (text_of program_rule.name) n).1 h)
 
 -- what the place of a name says of the rule of the name
 pub record IsPlaceOf (g : Grammar) (n : Text) (i : ℕ) : Type 0 where
@@ -86,26 +86,26 @@ pub meant_of : (g : Grammar) (n : Text) (i : ℕ) → last_place g n ≡ Some i 
 meant_of g n i e =
     let x = place_of_last g n i e in record { within = x.within; meant = x.meant; named = x.named }
 
--- a rule of a name has a row
-pub rule_within : (rows : List Row) (n : Text) (i : ℕ) → IsRuleOf (grammar_of rows) n i → i < length rows
-rule_within rows n i h = omega (arith, h.within, length-map rows (rule_of_row (names_of rows)))
+-- a rule of a name has a program rule
+pub rule_within : (program_rules : List ProgramRule) (n : Text) (i : ℕ) → IsRuleOf (grammar_of program_rules) n i → i < length program_rules
+rule_within program_rules n i h = omega (arith, h.within, length-map program_rules (grammar_rule (names_of program_rules)))
 
--- the name of a row, and that of its rule
-row_name : (names : List Text) (rows : List Row) (i : ℕ) (d : Rule) → i < length rows
-    → get_or (map (λ r. text_of r.name) rows) i [] ≡ (get_or (map (rule_of_row names) rows) i d).name
-row_name names [] i d l = absurd (omega (arith, l))
-row_name names (r ∷ rows) zero d l = refl
-row_name names (r ∷ rows) (suc i) d l = row_name names rows i d (omega (arith, l))
+-- the name of a program rule, and that of its rule
+program_rule_name : (names : List Text) (program_rules : List ProgramRule) (i : ℕ) (d : Rule) → i < length program_rules
+    → get_or (map (λ r. text_of r.name) program_rules) i [] ≡ (get_or (map (grammar_rule names) program_rules) i d).name
+program_rule_name names [] i d l = absurd (omega (arith, l))
+program_rule_name names (r ∷ program_rules) zero d l = refl
+program_rule_name names (r ∷ program_rules) (suc i) d l = program_rule_name names program_rules i d (omega (arith, l))
 
--- the last row of the name of a row
-module _ (rows : List Row) (rule last : ℕ) (e : last_place (grammar_of rows) (name_at (names_of rows) rule) ≡ Some last) where
-  pub last_within : last < length rows
-  last_within = rule_within rows (name_at (names_of rows) rule) last (meant_of (grammar_of rows) (name_at (names_of rows) rule) last e)
+-- the last program rule of the name of a program rule
+module _ (program_rules : List ProgramRule) (rule last : ℕ) (e : last_place (grammar_of program_rules) (name_at (names_of program_rules) rule) ≡ Some last) where
+  pub last_within : last < length program_rules
+  last_within = rule_within program_rules (name_at (names_of program_rules) rule) last (meant_of (grammar_of program_rules) (name_at (names_of program_rules) rule) last e)
 
-  pub last_named : name_at (names_of rows) last ≡ name_at (names_of rows) rule
+  pub last_named : name_at (names_of program_rules) last ≡ name_at (names_of program_rules) rule
   last_named =
-      row_name (names_of rows) rows last no_rule last_within
-      ∙ (place_of_last (grammar_of rows) (name_at (names_of rows) rule) last e).named no_rule
+      program_rule_name (names_of program_rules) program_rules last no_rule last_within
+      ∙ (place_of_last (grammar_of program_rules) (name_at (names_of program_rules) rule) last e).named no_rule
 
-  pub last_is : IsLast rows last
-  last_is = ap (last_place (grammar_of rows)) last_named ∙ e
+  pub last_is : IsLast program_rules last
+  last_is = ap (last_place (grammar_of program_rules)) last_named ∙ e

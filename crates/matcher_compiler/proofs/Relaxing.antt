@@ -6,7 +6,7 @@ use Rattle.base_language.specs.Language.State.{Classes}
 use Rattle.base_language.specs.Language.Text.{Text}
 use Rattle.matcher_code.specs.Lists.{CodeLists}
 use Rattle.matcher_code.specs.Laid as lay
-use Rattle.matcher_code.specs.Laid.{Enters, EntersTurn, HasGap, HasTable, HasTest, Lays}
+use Rattle.matcher_code.specs.Laid.{Enters, EntersTurn, HasTrivia, HasTable, HasTest, Lays}
 use Rattle.matcher_code.specs.declared.state.Places.{Places}
 use Rattle.matcher_code.specs.Reached.{MayAsk}
 use Rattle.matcher_program.specs.declared.form.Program.{Program}
@@ -48,8 +48,8 @@ module _ (exact : Bool) (g : Grammar) (classes : Classes) (code : CodeLists) whe
   may_ask true text asked h = tt
   may_ask false text asked h = h
 
-  gap : (number : Text → ℕ) (q k : Task) (l j n : ℕ) → HasGap exact g classes code number q k l j n → HasGap false g classes code number q k l j n
-  gap number q k l j n x =
+  trivia : (number : Text → ℕ) (q k : Task) (l j n : ℕ) → HasTrivia exact g classes code number q k l j n → HasTrivia false g classes code number q k l j n
+  trivia number q k l j n x =
       record { behind = x.behind; skips = x.skips; goes = λ text s c at asks. x.goes text s c at (may_ask exact text c.asked asks) }
 
   module _ (number : Text → ℕ) (laid : List lay.Point) (rank : ℕ) where
@@ -67,15 +67,15 @@ module _ (exact : Bool) (g : Grammar) (classes : Classes) (code : CodeLists) whe
     lays (lay.neg_pred first last a p z) = lay.neg_pred first last a p z
     lays (lay.seq j k a b c) = lay.seq j k a b c
     lays (lay.tried_seq first j k last t a b c z) = lay.tried_seq first j k last t a b c z
-    lays (lay.gap_seq j k a b c) = lay.gap_seq j k a (gap number _ _ _ _ _ b) c
-    lays (lay.set_seq k t b c) = lay.set_seq k t (gap number _ _ _ _ _ b) c
+    lays (lay.trivia_seq j k a b c) = lay.trivia_seq j k a (trivia number _ _ _ _ _ b) c
+    lays (lay.set_seq k t b c) = lay.set_seq k t (trivia number _ _ _ _ _ b) c
     lays (lay.choice j first second u a p b q) = lay.choice j first second u (enters _ _ _ _ a) p (enters _ _ _ _ b) q
     lays (lay.switched_choice j first second u a p b q) = lay.switched_choice j first second u (table _ _ _ _ _ _ a) p (enters _ _ _ _ b) q
     lays (lay.opt first u a p) = lay.opt first u (enters _ _ _ _ a) p
     lays (lay.tight_rep first t e u a p) = lay.tight_rep first t e u (enters_turn _ _ _ _ a) p
-    lays (lay.rep start turn gap first last u a x y p q z) = lay.rep start turn gap first last u (enters _ _ _ _ a) x y p q z
+    lays (lay.rep start turn trivia first last u a x y p q z) = lay.rep start turn trivia first last u (enters _ _ _ _ a) x y p q z
     lays (lay.tight_turns first t e u a p) = lay.tight_turns first t e u (enters_turn _ _ _ _ a) p
-    lays (lay.turns gap first last a p q z) = lay.turns gap first last a p q z
+    lays (lay.turns trivia first last a p q z) = lay.turns trivia first last a p q z
     lays (lay.called_seq start j k first turn end a b q y x z) = lay.called_seq start j k first turn end a b q y x z
     lays (lay.called_rep first turn a x) = lay.called_rep first turn a x
     lays (lay.called_turns first x) = lay.called_turns first x

@@ -15,7 +15,7 @@ use Rattle.matcher_code.specs.Laid as lay
 use Rattle.matcher_code.specs.Laid.{FailsOutside, HasOutcome, IsPart, IsPoint, IsSilent, IsTight, TakesSome, skip_set, span_of}
 use Rattle.matcher_code.proofs.Characters.{silent_call_of_some, span_of_some}
 use Rattle.matcher_program.specs.declared.form.Program.{Program}
-use Rattle.matcher_program.specs.declared.form.Row.{Row}
+use Rattle.matcher_program.specs.declared.form.ProgramRule.{ProgramRule}
 use Rattle.matcher_program.specs.Programs.{IsRuleOf, IsSkippedRule, name_at, names_of}
 use Rattle.matcher_sets.specs.declared.modes.Atomicity as code
 use Rattle.matcher_compiler.specs.declared.plan.Skips.TheVariants as skips
@@ -61,17 +61,17 @@ pub tight_between : (g : Grammar) (classes : Classes) → IsTight g classes Betw
 tight_between g classes s = (by.between, λ place. refl)
 
 -- the characters that the body of the rule matches are blanks
-pub blanks_any : (p : Program) (i : ℕ) (row : Row) (classes : Classes) (set : ℕ → Bool) → IsSoundProgram p → p.whitespace ≡ Some i
-    → (within : i < length p.rows.items) → (is : row ≡ get_or p.rows.items i row) → rule_type_of row.kind ≡ Silent
-    → BeginsWith p classes row.body set → HasOutcome (grammar_in p) classes (Run Between blanks) (skip_set set) in_silence
-blanks_any p i row classes set sound white within is silent matches =
-    let r = made p i row within is in
+pub blanks_any : (p : Program) (i : ℕ) (program_rule : ProgramRule) (classes : Classes) (set : ℕ → Bool) → IsSoundProgram p → p.whitespace ≡ Some i
+    → (within : i < length p.rules.items) → (is : program_rule ≡ get_or p.rules.items i program_rule) → rule_type_of program_rule.kind ≡ Silent
+    → BeginsWith p classes program_rule.body set → HasOutcome (grammar_in p) classes (Run Between blanks) (skip_set set) in_silence
+blanks_any p i program_rule classes set sound white within is silent matches =
+    let r = made p i program_rule within is in
     let w = subst (IsSkippedRule (grammar_in p) whitespace) white sound.whitespace_is in
-    let meant : rule_of (grammar_in p) whitespace ≡ Some r = w.meant no_rule ∙ ap Some (same p i row within is no_rule) in
+    let meant : rule_of (grammar_in p) whitespace ≡ Some r = w.meant no_rule ∙ ap Some (same p i program_rule within is no_rule) in
     let k = blank_mode (bytes_eq r.name whitespace || bytes_eq r.name comment) in
     let m : mode_of k.0 ≡ body_mode r Between = k.1 ∙ ap (λ y. mode_in y (bytes_eq r.name whitespace || bytes_eq r.name comment) Between) (sym silent) in
-    let z : (s : State) → TakesSome (grammar_in p) classes (Run (body_mode r Between) (said p row.body)) s set
-    = λ s. subst (λ z. TakesSome (grammar_in p) classes (Run z (said p row.body)) s set) m (matches k.0 s) in
+    let z : (s : State) → TakesSome (grammar_in p) classes (Run (body_mode r Between) (said p program_rule.body)) s set
+    = λ s. subst (λ z. TakesSome (grammar_in p) classes (Run z (said p program_rule.body)) s set) m (matches k.0 s) in
     span_of_some (grammar_in p) classes Between (Ident whitespace) set (tight_between (grammar_in p) classes)
     (silent_call_of_some (grammar_in p) classes Between whitespace r set meant (ap (λ t. by.gives_token t Between) silent) z)
 
@@ -132,7 +132,7 @@ no_comments g classes m s =
 -- a rule that is called in the implicit skipping
 module _ (p : Program) (x : Text) (i : ℕ) (meant : IsRuleOf (grammar_in p) x i) (blank : IsSkipName x) where
   pub skipped_laid : (exact : Bool) (classes : Classes) (code : CodeLists) (number : Text → ℕ) (points : List lay.Point) {rank l n w : ℕ}
-      → lay.Lays exact (grammar_in p) classes code number points rank (Run NonAtomicMode (Ident (name_at (names_of p.rows.items) i))) l n w
+      → lay.Lays exact (grammar_in p) classes code number points rank (Run NonAtomicMode (Ident (name_at (names_of p.rules.items) i))) l n w
       → lay.Lays exact (grammar_in p) classes code number points rank (Run Between (Ident x)) l n w
   skipped_laid exact classes code number points {rank = rank} {l = l} {n = n} {w = w} y =
       laid_between (grammar_in p) classes x (get_or (grammar_in p) i no_rule) (meant.meant no_rule) (rule_is_skipped p x i meant blank) exact code number points

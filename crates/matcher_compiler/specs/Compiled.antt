@@ -35,7 +35,7 @@ pub record IsEmpty (plan : Plan) : Type 0 where
 -- a program that meets the plan has a point for a call of each of the first rules from outside
 abbrev pub HasEntries : Program → Plan → ℕ → Type 0
 HasEntries p plan n = (code : CodeLists) (laid : List lay.Point) → Meets p plan code laid → (i : ℕ) → i < n
-    → IsPoint laid (Run NonAtomicMode (Ident (name_at (names_of p.rows.items) i))) (i + 3) 1 2
+    → IsPoint laid (Run NonAtomicMode (Ident (name_at (names_of p.rules.items) i))) (i + 3) 1 2
 
 -- the program has code for the body of each rule in each mode in which it is called, and a call of each rule
 -- from outside begins at the label after three more than its index; exact code records each name that is
@@ -45,5 +45,5 @@ pub record IsCodeOf (exact : Bool) (p : Program) (code : CodeLists) : Type 0 whe
   pub points : List lay.Point
   pub laid : (classes : Classes) → Fits p.properties.items classes
       → AreLaid exact (grammar_in p) classes code (number_in (grammar_in p)) points
-  pub entries : (i : ℕ) → i < length p.rows.items
-      → IsPoint points (Run NonAtomicMode (Ident (name_at (names_of p.rows.items) i))) (i + 3) 1 2
+  pub entries : (i : ℕ) → i < length p.rules.items
+      → IsPoint points (Run NonAtomicMode (Ident (name_at (names_of p.rules.items) i))) (i + 3) 1 2

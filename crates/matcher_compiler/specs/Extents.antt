@@ -9,7 +9,7 @@ use Rattle.matcher_program.specs.FormWeight.{weight}
 use Rattle.matcher_program.specs.declared.form.Form.{Form}
 use Rattle.matcher_program.specs.declared.form.Form.TheVariants as form
 use Rattle.matcher_program.specs.declared.form.Program.{Program}
-use Rattle.matcher_program.specs.declared.form.Row.{Row}
+use Rattle.matcher_program.specs.declared.form.ProgramRule.{ProgramRule}
 
 -- whether a form is one that reads or changes the stack
 abbrev pub is_stack_form : Form → Bool
@@ -71,21 +71,21 @@ abbrev pub heft : List (Bor Form) → ℕ
 heft [] = 0
 heft (f ∷ fs) = weight f.now + heft fs
 
--- so it is with rows
-abbrev pub rows_stack : List Row → Bool
-rows_stack [] = false
-rows_stack (r ∷ rs) = has_stack r.body || rows_stack rs
+-- so it is with program rules
+abbrev pub program_rules_stack : List ProgramRule → Bool
+program_rules_stack [] = false
+program_rules_stack (r ∷ rs) = has_stack r.body || program_rules_stack rs
 
-abbrev pub count_rows : List Row → ℕ
-count_rows [] = 0
-count_rows (r ∷ rs) = count_forms r.body + 1 + count_rows rs
+abbrev pub count_program_rules : List ProgramRule → ℕ
+count_program_rules [] = 0
+count_program_rules (r ∷ rs) = count_forms r.body + 1 + count_program_rules rs
 
 -- whether the rules of a program use the stack, and their size: their forms, and one for each rule
 abbrev pub uses_stack : Program → Bool
-uses_stack p = rows_stack p.rows.items
+uses_stack p = program_rules_stack p.rules.items
 
 abbrev pub size_of : Program → ℕ
-size_of p = count_rows p.rows.items
+size_of p = count_program_rules p.rules.items
 
 -- whether an expression names the stack: a push, or the name of a builtin that uses it
 abbrev pub names_stack : Expression → Bool

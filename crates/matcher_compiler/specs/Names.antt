@@ -3,7 +3,7 @@ use Rattle.std.specs.Prelude.{◌≡◌, ◌<◌, ◌⊎◌, ℕ, suc, List, [],
 use Rattle.base_language.specs.Language.Text.{Text}
 use Rattle.base_language.specs.Language.Expression.{Grammar, last_place}
 use Rattle.base_language.specs.Language.FurthestFailure.{is_eoi}
-use Rattle.matcher_program.specs.declared.form.Row.{Row}
+use Rattle.matcher_program.specs.declared.form.ProgramRule.{ProgramRule}
 use Rattle.matcher_program.specs.Programs.{grammar_of, name_at, names_of}
 
 -- an index, or else a count for `EOI`, and one more for all other names
@@ -17,15 +17,15 @@ or_end None false n = suc n
 abbrev pub number_in : Grammar → Text → ℕ
 number_in g n = or_end (last_place g n) (is_eoi n) (length g)
 
--- the row is the last one of its name
-abbrev pub IsLast : List Row → ℕ → Type 0
-IsLast rows i = last_place (grammar_of rows) (name_at (names_of rows) i) ≡ Some i
+-- the program rule is the last one of its name
+abbrev pub IsLast : List ProgramRule → ℕ → Type 0
+IsLast program_rules i = last_place (grammar_of program_rules) (name_at (names_of program_rules) i) ≡ Some i
 
--- for each row the index of the last row of its name
-pub record AreLast (rows : List Row) (lasts : List ℕ) : Type 0 where
-  pub long : length lasts ≡ length rows
-  pub last : (i : ℕ) → i < length rows
-      → last_place (grammar_of rows) (name_at (names_of rows) i) ≡ Some (get_or lasts i 0)
+-- for each program rule the index of the last program rule of its name
+pub record AreLast (program_rules : List ProgramRule) (lasts : List ℕ) : Type 0 where
+  pub long : length lasts ≡ length program_rules
+  pub last : (i : ℕ) → i < length program_rules
+      → last_place (grammar_of program_rules) (name_at (names_of program_rules) i) ≡ Some (get_or lasts i 0)
 
 -- a rule has the name, or else it is `EOI`
 abbrev pub HasNumber : Grammar → Text → Type 0

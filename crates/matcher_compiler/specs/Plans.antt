@@ -25,7 +25,7 @@ use Rattle.matcher_compiler.specs.declared.points.Demand.{Demand}
 use Rattle.matcher_compiler.specs.declared.points.Demand.TheVariants as demand
 use Rattle.matcher_compiler.specs.declared.points.Part.{Part}
 use Rattle.matcher_compiler.specs.declared.points.Part.TheVariants as part
-use Rattle.matcher_compiler.specs.declared.points.Place.{Place}
+use Rattle.matcher_compiler.specs.declared.points.TaskLabels.{TaskLabels}
 use Rattle.matcher_compiler.specs.declared.points.Point.{Point}
 use Rattle.matcher_sets.specs.Modes.{mode_of}
 use Rattle.matcher_compiler.specs.Exact.{IsAllowed, is_exact}
@@ -50,8 +50,8 @@ task_in p (part.Form f) m = Run m (said p f.now)
 task_in p (part.OnceOrMore f) m = Run m (once_or_more (said p f.now))
 task_in p (part.Repetition f) m = Run m (Rep (said p f.now))
 task_in p (part.Body i) m = Run m (body_in p i)
-task_in p (part.Rule i) m = Run m (Ident (name_at (names_of p.rows.items) i))
-task_in p part.Gap m = Skipping m
+task_in p (part.Rule i) m = Run m (Ident (name_at (names_of p.rules.items) i))
+task_in p part.Trivia m = Skipping m
 task_in p part.Skipped m = Run Between skipped
 task_in p part.Blanks m = Run Between blanks
 task_in p part.BlankCall m = Run Between (Ident whitespace)
@@ -65,8 +65,8 @@ abbrev pub IsBoundPart : Program → Part → Type 0
 IsBoundPart p (part.Form f) = IsBoundIn p f.now
 IsBoundPart p (part.OnceOrMore f) = IsBoundIn p f.now
 IsBoundPart p (part.Repetition f) = IsBoundIn p f.now
-IsBoundPart p (part.Body i) = i < length p.rows.items
-IsBoundPart p (part.Rule i) = i < length p.rows.items
+IsBoundPart p (part.Body i) = i < length p.rules.items
+IsBoundPart p (part.Rule i) = i < length p.rules.items
 IsBoundPart p _ = ⊤
 
 -- a point of a program
@@ -179,14 +179,14 @@ pub record IsLater (p : Program) (old new : Plan) : Type 0 where
   pub ready : IsReady p old → IsReady p new
 
 -- a program that meets the plan has code for the task at the place
-abbrev pub LaysAt : Program → Plan → Task → Place → Type 0
+abbrev pub LaysAt : Program → Plan → Task → TaskLabels → Type 0
 LaysAt p plan k at = (classes : Classes) → Fits p.properties.items classes
     → (code : CodeLists) (laid : List lay.Point) → Meets p plan code laid
     → Lays (is_exact code) (grammar_in p) classes code (number_in (grammar_in p)) laid at.rank k
     at.label at.next at.on_fail
 
 -- so it goes on from the place to the task at a label
-abbrev pub EntersAt : Program → Plan → Task → Place → ℕ → Type 0
+abbrev pub EntersAt : Program → Plan → Task → TaskLabels → ℕ → Type 0
 EntersAt p plan k at first = (classes : Classes) → Fits p.properties.items classes
     → (code : CodeLists) (laid : List lay.Point) → Meets p plan code laid
     → Enters (is_exact code) (grammar_in p) classes code k at.label first at.on_fail
@@ -202,7 +202,7 @@ TakesNoneIn p k h = (classes : Classes) → Fits p.properties.items classes
     → TakesNone (grammar_in p) classes k h.ranges.items h.noted
 
 -- so a table at the place leads on to the task at a label, or, where that fails, to another label
-abbrev pub BranchesAt : Program → Plan → Task → Place → (first second : ℕ) → Type 0
+abbrev pub BranchesAt : Program → Plan → Task → TaskLabels → (first second : ℕ) → Type 0
 BranchesAt p plan k at first second = (classes : Classes) → Fits p.properties.items classes
     → (code : CodeLists) (laid : List lay.Point) → Meets p plan code laid
     → HasTable (is_exact code) (grammar_in p) classes code k at.label first second at.next at.on_fail
@@ -220,12 +220,12 @@ FailsBefore p k ranges rest = (classes : Classes) → Fits p.properties.items cl
 
 -- so it goes on from the place to a point that does the task
 pub record IsEntered (g : Grammar) (classes : Classes) (code : CodeLists) (laid : List lay.Point) (k : Task)
-    (at : Place) : Type 0 where
+    (at : TaskLabels) : Type 0 where
   pub first : ℕ
   pub entered : Enters (is_exact code) g classes code k at.label first at.on_fail
   pub point : IsPart laid at.rank k first at.next at.on_fail
 
-abbrev pub BeginsAt : Program → Plan → Task → Place → Type 0
+abbrev pub BeginsAt : Program → Plan → Task → TaskLabels → Type 0
 BeginsAt p plan k at = (classes : Classes) → Fits p.properties.items classes
     → (code : CodeLists) (laid : List lay.Point) → Meets p plan code laid
     → IsEntered (grammar_in p) classes code laid k at
@@ -235,20 +235,21 @@ abbrev pub LaysPoint : Program → Plan → Point → Type 0
 LaysPoint p plan x = LaysAt p plan (task_in p x.part (mode_of x.at.mode)) x.at
 
 -- there are points for two parts, one after the other with the skipping between them
-pub record AreParts (p : Program) (laid : List lay.Point) (first second : Part) (at : Place) : Type 0 where
-  pub behind : ℕ
-  pub begin : ℕ
-  pub left : IsPart laid at.rank (task_in p first (mode_of at.mode)) at.label behind 0
-  pub skipping : IsPart laid at.rank (Skipping (mode_of at.mode)) behind begin 0
-  pub right : IsPart laid at.rank (task_in p second (mode_of at.mode)) begin at.next 0
+pub record AreParts (p : Program) (laid : List lay.Point) (first second : Part) (at : TaskLabels) : Type 0
+  where
+    pub behind : ℕ
+    pub begin : ℕ
+    pub left : IsPart laid at.rank (task_in p first (mode_of at.mode)) at.label behind 0
+    pub skipping : IsPart laid at.rank (Skipping (mode_of at.mode)) behind begin 0
+    pub right : IsPart laid at.rank (task_in p second (mode_of at.mode)) begin at.next 0
 
 -- a program that meets the plan has them
-abbrev pub HasParts : Program → Plan → Part → Part → Place → Type 0
+abbrev pub HasParts : Program → Plan → Part → Part → TaskLabels → Type 0
 HasParts p plan first second at = (code : CodeLists) (laid : List lay.Point) → Meets p plan code laid
     → AreParts p laid first second at
 
 -- so it has code for the turns of a repetition, of which the first begins at a label
-abbrev pub HasTurns : Program → Plan → Expression → Place → ℕ → Type 0
+abbrev pub HasTurns : Program → Plan → Expression → TaskLabels → ℕ → Type 0
 HasTurns p plan e at start = (classes : Classes) (code : CodeLists) (laid : List lay.Point)
     → Meets p plan code laid
     → Enters (is_exact code) (grammar_in p) classes code (Run (mode_of at.mode) e) at.label start at.next

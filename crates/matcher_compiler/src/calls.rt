@@ -16,9 +16,9 @@ ghost use Rattle.matcher_compiler.specs.Plans.{IsBoundPart, IsLater, LaysAt, Mee
 
 use crate::forms::FAIL;
 use crate::plan::Plan;
-use crate::points::{Demand, NO_CALL, NotCompiled, Part, Place, Point, TOP_RANK};
+use crate::points::{Demand, NO_CALL, NotCompiled, Part, Point, TOP_RANK, TaskLabels};
 use matcher_code::code::Op;
-use matcher_program::form::{Form, Program, Row};
+use matcher_program::form::{Form, Program, ProgramRule};
 use matcher_sets::modes::{Atomicity, body_mode, gives_token, is_seen_from};
 use matcher_sets::sizes::MOST_INSIDE;
 
@@ -65,7 +65,12 @@ impl<'p> Plan<'p> {
     }
 
     /// Adds the point of a body, and returns its number.
-    fn new_body(&mut self, body: Part<'p>, at: Place, number: usize) -> Result<usize, NotCompiled>
+    fn new_body(
+        &mut self,
+        body: Part<'p>,
+        at: TaskLabels,
+        number: usize,
+    ) -> Result<usize, NotCompiled>
         ensures later { OnOk result ((p : Program) → IsBoundPart p body.entry
             → IsLater p self.old self.new) }
     {
@@ -76,7 +81,12 @@ impl<'p> Plan<'p> {
     }
 
     /// Returns the number of the point of a body, which is added if there is none.
-    fn body_point(&mut self, body: Part<'p>, at: Place, number: usize) -> Result<usize, NotCompiled>
+    fn body_point(
+        &mut self,
+        body: Part<'p>,
+        at: TaskLabels,
+        number: usize,
+    ) -> Result<usize, NotCompiled>
         ensures later { OnOk result ((p : Program) → IsBoundPart p body.entry
             → IsLater p self.old self.new) }
     {
@@ -104,14 +114,14 @@ impl<'p> Plan<'p> {
         gives: bool,
         fresh: u32,
     ) -> Result<(u32, u32), NotCompiled>
-        requires within { rule < length program.now.rows.items }
+        requires within { rule < length program.now.rules.items }
         ensures later { OnOk result (IsLater program.now self.old self.new) }
         ensures has { IfOk result (λ labels. (code : CodeLists) (laid : List lay.Point)
             → Meets program.now self.new code laid
             → IsPoint laid (Run (mode_of mode) (body_in program.now rule)) labels.0 labels.1 0) }
     {
         let number = body_number(rule, mode, gives);
-        let place = Place {
+        let place = TaskLabels {
             mode,
             label: fresh,
             next: fresh.saturating_add(1),
@@ -136,23 +146,23 @@ impl<'p> Plan<'p> {
         &mut self,
         program: &Program,
         rule: usize,
-        row: &Row,
-        at: Place,
+        program_rule: &ProgramRule,
+        at: TaskLabels,
         fresh: u32,
     ) -> Result<(), NotCompiled>
         requires sound { IsSoundProgram program.now }
-        requires last { IsLast program.now.rows.items rule }
-        requires few { length program.now.rows.items < 2 ^ 28 }
-        requires within { rule < length program.now.rows.items }
+        requires last { IsLast program.now.rules.items rule }
+        requires few { length program.now.rules.items < 2 ^ 28 }
+        requires within { rule < length program.now.rules.items }
         requires meant { IsRuleOf (grammar_in program.now)
-            (name_at (names_of program.now.rows.items) rule) rule }
-        requires is { row.now ≡ get_or program.now.rows.items rule row.now }
-        requires gives { gives_token (rule_type_of row.now.kind) (mode_of at.mode) ≡ true }
+            (name_at (names_of program.now.rules.items) rule) rule }
+        requires is { program_rule.now ≡ get_or program.now.rules.items rule program_rule.now }
+        requires gives { gives_token (rule_type_of program_rule.now.kind) (mode_of at.mode) ≡ true }
         ensures later { OnOk result (IsLater program.now self.old self.new) }
         ensures lays { OnOk result (LaysAt program.now self.new
-            (Run (mode_of at.mode) (Ident (name_at (names_of program.now.rows.items) rule))) at) }
+            (Run (mode_of at.mode) (Ident (name_at (names_of program.now.rules.items) rule))) at) }
     {
-        let inner = body_mode(row.kind, row.blank, at.mode);
+        let inner = body_mode(program_rule.kind, program_rule.blank, at.mode);
         let counts = is_seen_from(at.mode);
         let (to, last) = self.body(program, rule, inner, true, fresh)?;
         self.operation(last, Op::Return)?;
@@ -160,7 +170,7 @@ impl<'p> Plan<'p> {
             at.label,
             Op::Call {
                 to,
-                row: rule as u32,
+                rule: rule as u32,
                 next: at.next,
                 fail: at.on_fail,
                 counts,
@@ -177,8 +187,8 @@ impl<'p> Plan<'p> {
             → Meets program.now self.new code laid
             → IsPoint laid (Run Between skipped) labels.0 labels.1 0) }
     {
-        let number = program.rows.len().saturating_mul(BODIES);
-        let place = Place {
+        let number = program.rules.len().saturating_mul(BODIES);
+        let place = TaskLabels {
             mode: Atomicity::NonAtomic,
             label: fresh,
             next: fresh.saturating_add(1),
@@ -196,7 +206,7 @@ impl<'p> Plan<'p> {
     pub(crate) fn skip_call(
         &mut self,
         program: &Program,
-        at: Place,
+        at: TaskLabels,
         fresh: u32,
     ) -> Result<(), NotCompiled>
         requires mode { mode_of at.mode ≡ NonAtomicMode }
@@ -221,21 +231,21 @@ impl<'p> Plan<'p> {
         &mut self,
         program: &Program,
         rule: usize,
-        row: &Row,
-        at: Place,
+        program_rule: &ProgramRule,
+        at: TaskLabels,
         fresh: u32,
     ) -> Result<(), NotCompiled>
         requires sound { IsSoundProgram program.now }
-        requires within { rule < length program.now.rows.items }
+        requires within { rule < length program.now.rules.items }
         requires meant { IsRuleOf (grammar_in program.now)
-            (name_at (names_of program.now.rows.items) rule) rule }
-        requires is { row.now ≡ get_or program.now.rows.items rule row.now }
-        requires gives { gives_token (rule_type_of row.now.kind) (mode_of at.mode) ≡ false }
+            (name_at (names_of program.now.rules.items) rule) rule }
+        requires is { program_rule.now ≡ get_or program.now.rules.items rule program_rule.now }
+        requires gives { gives_token (rule_type_of program_rule.now.kind) (mode_of at.mode) ≡ false }
         ensures later { OnOk result (IsLater program.now self.old self.new) }
         ensures lays { OnOk result (LaysAt program.now self.new
-            (Run (mode_of at.mode) (Ident (name_at (names_of program.now.rows.items) rule))) at) }
+            (Run (mode_of at.mode) (Ident (name_at (names_of program.now.rules.items) rule))) at) }
     {
-        let inner = body_mode(row.kind, row.blank, at.mode);
+        let inner = body_mode(program_rule.kind, program_rule.blank, at.mode);
         let (to, last) = self.body(program, rule, inner, false, fresh)?;
         self.operation(last, Op::Back)?;
         self.operation(
@@ -250,7 +260,7 @@ impl<'p> Plan<'p> {
     }
 
     /// Returns whether a rule is none of those whose bodies are around a call, and these are few enough.
-    fn is_outside(&self, rule: usize, at: Place) -> bool {
+    fn is_outside(&self, rule: usize, at: TaskLabels) -> bool {
         let mut around = at.around;
         for _ in 0..MOST_INSIDE + 1 {
             match self.points.get(around as usize) {
@@ -269,9 +279,9 @@ impl<'p> Plan<'p> {
     /// Returns whether the body of a rule that gives no token is laid in the place of a call: if it is
     /// small, not inside itself, and inside at most `MOST_INSIDE` others. So a program grows by a constant
     /// for each form.
-    fn is_placed(&self, row: &Row, rule: usize, at: Place) -> bool {
-        let mode = body_mode(row.kind, row.blank, at.mode);
-        self.sizes.is_small(row, rule, mode) && self.is_outside(rule, at)
+    fn is_placed(&self, program_rule: &ProgramRule, rule: usize, at: TaskLabels) -> bool {
+        let mode = body_mode(program_rule.kind, program_rule.blank, at.mode);
+        self.sizes.is_small(program_rule, rule, mode) && self.is_outside(rule, at)
     }
 
     /// Returns the body of a rule, if a call of it would be laid in place.
@@ -279,14 +289,16 @@ impl<'p> Plan<'p> {
         &self,
         program: &'q Program,
         rule: usize,
-        at: Place,
+        at: TaskLabels,
     ) -> Option<&'q Form> {
-        match program.rows.get(rule) {
-            Some(row) => {
-                if gives_token(row.kind, at.mode) || !self.is_placed(row, rule, at) {
+        match program.rules.get(rule) {
+            Some(program_rule) => {
+                if gives_token(program_rule.kind, at.mode)
+                    || !self.is_placed(program_rule, rule, at)
+                {
                     None
                 } else {
-                    Some(&row.body)
+                    Some(&program_rule.body)
                 }
             }
             None => None,
@@ -298,21 +310,21 @@ impl<'p> Plan<'p> {
         &mut self,
         program: &Program,
         rule: usize,
-        row: &Row,
-        at: Place,
+        program_rule: &ProgramRule,
+        at: TaskLabels,
     ) -> Result<(), NotCompiled>
         requires sound { IsSoundProgram program.now }
-        requires within { rule < length program.now.rows.items }
+        requires within { rule < length program.now.rules.items }
         requires meant { IsRuleOf (grammar_in program.now)
-            (name_at (names_of program.now.rows.items) rule) rule }
-        requires is { row.now ≡ get_or program.now.rows.items rule row.now }
-        requires gives { gives_token (rule_type_of row.now.kind) (mode_of at.mode) ≡ false }
+            (name_at (names_of program.now.rules.items) rule) rule }
+        requires is { program_rule.now ≡ get_or program.now.rules.items rule program_rule.now }
+        requires gives { gives_token (rule_type_of program_rule.now.kind) (mode_of at.mode) ≡ false }
         ensures later { OnOk result (IsLater program.now self.old self.new) }
         ensures lays { OnOk result (LaysAt program.now self.new
-            (Run (mode_of at.mode) (Ident (name_at (names_of program.now.rows.items) rule))) at) }
+            (Run (mode_of at.mode) (Ident (name_at (names_of program.now.rules.items) rule))) at) }
     {
-        let mode = body_mode(row.kind, row.blank, at.mode);
-        self.point(Part::Body(rule), Place { mode, ..at })?;
+        let mode = body_mode(program_rule.kind, program_rule.blank, at.mode);
+        self.point(Part::Body(rule), TaskLabels { mode, ..at })?;
         Ok(())
     }
 
@@ -321,24 +333,24 @@ impl<'p> Plan<'p> {
         &mut self,
         program: &Program,
         rule: usize,
-        row: &Row,
-        at: Place,
+        program_rule: &ProgramRule,
+        at: TaskLabels,
         fresh: u32,
     ) -> Result<(), NotCompiled>
         requires sound { IsSoundProgram program.now }
-        requires within { rule < length program.now.rows.items }
+        requires within { rule < length program.now.rules.items }
         requires meant { IsRuleOf (grammar_in program.now)
-            (name_at (names_of program.now.rows.items) rule) rule }
-        requires is { row.now ≡ get_or program.now.rows.items rule row.now }
-        requires gives { gives_token (rule_type_of row.now.kind) (mode_of at.mode) ≡ false }
+            (name_at (names_of program.now.rules.items) rule) rule }
+        requires is { program_rule.now ≡ get_or program.now.rules.items rule program_rule.now }
+        requires gives { gives_token (rule_type_of program_rule.now.kind) (mode_of at.mode) ≡ false }
         ensures later { OnOk result (IsLater program.now self.old self.new) }
         ensures lays { OnOk result (LaysAt program.now self.new
-            (Run (mode_of at.mode) (Ident (name_at (names_of program.now.rows.items) rule))) at) }
+            (Run (mode_of at.mode) (Ident (name_at (names_of program.now.rules.items) rule))) at) }
     {
-        if self.is_placed(row, rule, at) {
-            self.placed_call(program, rule, row, at)
+        if self.is_placed(program_rule, rule, at) {
+            self.placed_call(program, rule, program_rule, at)
         } else {
-            self.silent_call(program, rule, row, at, fresh)
+            self.silent_call(program, rule, program_rule, at, fresh)
         }
     }
 
@@ -347,22 +359,22 @@ impl<'p> Plan<'p> {
         &mut self,
         program: &Program,
         rule: usize,
-        at: Place,
+        at: TaskLabels,
         fresh: u32,
     ) -> Result<(), NotCompiled>
         requires sound { IsSoundProgram program.now }
-        requires last { IsLast program.now.rows.items rule }
-        requires few { length program.now.rows.items < 2 ^ 28 }
-        requires within { rule < length program.now.rows.items }
+        requires last { IsLast program.now.rules.items rule }
+        requires few { length program.now.rules.items < 2 ^ 28 }
+        requires within { rule < length program.now.rules.items }
         ensures later { OnOk result (IsLater program.now self.old self.new) }
         ensures lays { OnOk result (LaysAt program.now self.new
-            (Run (mode_of at.mode) (Ident (name_at (names_of program.now.rows.items) rule))) at) }
+            (Run (mode_of at.mode) (Ident (name_at (names_of program.now.rules.items) rule))) at) }
     {
-        let row = &program.rows[rule];
-        if gives_token(row.kind, at.mode) {
-            self.token_call(program, rule, row, at, fresh)
+        let program_rule = &program.rules[rule];
+        if gives_token(program_rule.kind, at.mode) {
+            self.token_call(program, rule, program_rule, at, fresh)
         } else {
-            self.quiet_call(program, rule, row, at, fresh)
+            self.quiet_call(program, rule, program_rule, at, fresh)
         }
     }
 
@@ -373,16 +385,16 @@ impl<'p> Plan<'p> {
         program: &Program,
         lasts: &[usize],
         rule: usize,
-        at: Place,
+        at: TaskLabels,
         fresh: u32,
     ) -> Result<(), NotCompiled>
         requires sound { IsSoundProgram program.now }
-        requires lasts { AreLast program.now.rows.items lasts.now }
-        requires few { length program.now.rows.items < 2 ^ 28 }
-        requires within { rule < length program.now.rows.items }
+        requires lasts { AreLast program.now.rules.items lasts.now }
+        requires few { length program.now.rules.items < 2 ^ 28 }
+        requires within { rule < length program.now.rules.items }
         ensures later { OnOk result (IsLater program.now self.old self.new) }
         ensures lays { OnOk result (LaysAt program.now self.new
-            (Run (mode_of at.mode) (Ident (name_at (names_of program.now.rows.items) rule))) at) }
+            (Run (mode_of at.mode) (Ident (name_at (names_of program.now.rules.items) rule))) at) }
     {
         self.last_call(program, lasts[rule], at, fresh)
     }

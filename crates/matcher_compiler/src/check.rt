@@ -33,18 +33,20 @@ fn is_same_call(one: Op, other: Op) -> bool
     match one {
         Op::Call {
             to,
-            row,
+            rule,
             next,
             fail,
             counts,
         } => match other {
             Op::Call {
                 to: to2,
-                row: row2,
+                rule: rule2,
                 next: next2,
                 fail: fail2,
                 counts: counts2,
-            } => { to == to2 && row == row2 && next == next2 && fail == fail2 && counts == counts2 }
+            } => {
+                to == to2 && rule == rule2 && next == next2 && fail == fail2 && counts == counts2
+            }
             _ => false,
         },
         Op::Sub { to, next, fail } => match other {
@@ -94,17 +96,17 @@ fn is_same_text(one: Op, other: Op) -> bool
 
 /// Returns whether two operations are the same one of those that skip characters and test the next one, or
 /// that match texts.
-fn is_same_gap(one: Op, other: Op) -> bool
+fn is_same_trivia(one: Op, other: Op) -> bool
     ensures { result ≡ true → one ≡ other }
 {
     match one {
-        Op::Gap {
+        Op::Trivia {
             set,
             stops,
             next,
             slow,
         } => match other {
-            Op::Gap {
+            Op::Trivia {
                 set: set2,
                 stops: stops2,
                 next: next2,
@@ -158,7 +160,7 @@ fn is_same_leaf(one: Op, other: Op) -> bool
             } => next == next2 && fail == fail2,
             _ => false,
         },
-        _ => is_same_gap(one, other),
+        _ => is_same_trivia(one, other),
     }
 }
 
@@ -272,11 +274,11 @@ fn is_same(one: Op, other: Op) -> bool
             } => next == next2 && fail == fail2,
             _ => false,
         },
-        Op::Miss { row, next } => match other {
+        Op::Miss { rule, next } => match other {
             Op::Miss {
-                row: row2,
+                rule: rule2,
                 next: next2,
-            } => row == row2 && next == next2,
+            } => rule == rule2 && next == next2,
             _ => false,
         },
         Op::Commit { next } => match other {
@@ -295,11 +297,11 @@ fn is_same(one: Op, other: Op) -> bool
             Op::Switch { table: table2 } => table == table2,
             _ => false,
         },
-        Op::Leaf { row, next } => match other {
+        Op::Leaf { rule, next } => match other {
             Op::Leaf {
-                row: row2,
+                rule: rule2,
                 next: next2,
-            } => row == row2 && next == next2,
+            } => rule == rule2 && next == next2,
             _ => false,
         },
         _ => is_same_change(one, other),
@@ -316,7 +318,7 @@ fn has_operation(code: &Code, label: u32, op: Op) -> bool
     }
 }
 
-/// Returns whether the operation of a label does not end a run, and pops no slot.
+/// Returns whether the operation of a label does not end a run, and pops no frame.
 fn goes_on(code: &Code, label: u32) -> bool
     ensures { result ≡ true → GoesOn (lists_of code.now) label }
 {

@@ -15,9 +15,9 @@ ghost use Rattle.matcher_sets.specs.Forms.{IsSoundProgram};
 use crate::calls::BODIES;
 use crate::check::{has_ends, is_exact, meets_all};
 use crate::extent::is_fitting;
-use crate::names::last_rows;
+use crate::names::last_program_rules;
 use crate::plan::{Plan, Skips};
-use crate::points::{Demand, NO_CALL, NotCompiled, Part, Place, Point, TOP_RANK};
+use crate::points::{Demand, NO_CALL, NotCompiled, Part, Point, TOP_RANK, TaskLabels};
 use crate::sets::KEYS;
 use crate::table_writer::{Made, write_tables};
 use crate::tables::TABLE_SIZE;
@@ -25,7 +25,7 @@ use base_ast::ast::RuleType;
 use matcher_code::code::{Code, Op};
 use matcher_code::ranges::Ranges;
 use matcher_code::sets::add_set;
-use matcher_program::form::{Form, Program, Row};
+use matcher_program::form::{Form, Program, ProgramRule};
 use matcher_sets::difference::first_ranges;
 use matcher_sets::learning::rule_first_sets;
 use matcher_sets::modes::Atomicity;
@@ -45,7 +45,7 @@ fn empty_code(alloc: Global) -> Code
 {
     Code {
         ops: Vec::new(alloc),
-        rows: Vec::new(alloc),
+        program_rules: Vec::new(alloc),
         ranges: Vec::new(alloc),
         tables: Vec::new(alloc),
         texts: Vec::new(alloc),
@@ -68,12 +68,12 @@ fn fresh_plan<'p>(
     let sizes = body_sizes(alloc, program)?;
     let mut bodies = Vec::new(alloc);
     bodies.resize(
-        program.rows.len().saturating_mul(BODIES).saturating_add(1),
+        program.rules.len().saturating_mul(BODIES).saturating_add(1),
         None,
     )?;
     let mut places = Vec::with_capacity(alloc, KEYS)?;
     places.resize(KEYS, u32::MAX)?;
-    let expected = program.rows.len().saturating_mul(EXPECTED_POINTS);
+    let expected = program.rules.len().saturating_mul(EXPECTED_POINTS);
     Ok(Plan {
         points: Vec::with_capacity(alloc, expected)?,
         demands: Vec::with_capacity(alloc, expected)?,
@@ -95,15 +95,15 @@ fn body_ranges(
     alloc: Global,
     program: &Program,
     number: usize,
-    row: &Row,
+    program_rule: &ProgramRule,
     body: &Form,
 ) -> Result<Option<Ranges>, NotCompiled>
     requires sound { IsSoundProgram program.now }
     requires white { program.now.whitespace ≡ Some number }
-    requires within { number < length program.now.rows.items }
-    requires is { row.now ≡ get_or program.now.rows.items number row.now }
-    requires kind { rule_type_of row.now.kind ≡ Silent }
-    requires body { body.now ≡ row.now.body }
+    requires within { number < length program.now.rules.items }
+    requires is { program_rule.now ≡ get_or program.now.rules.items number program_rule.now }
+    requires kind { rule_type_of program_rule.now.kind ≡ Silent }
+    requires body { body.now ≡ program_rule.now.body }
     ensures { IfOk result (λ made. IfSome made (λ ranges. AreBlanks program.now ranges.items)) }
 {
     let made = first_ranges(alloc, program, body)?;
@@ -119,16 +119,16 @@ fn silent_ranges(
     alloc: Global,
     program: &Program,
     number: usize,
-    row: &Row,
+    program_rule: &ProgramRule,
 ) -> Result<Option<Ranges>, NotCompiled>
     requires sound { IsSoundProgram program.now }
     requires white { program.now.whitespace ≡ Some number }
-    requires within { number < length program.now.rows.items }
-    requires is { row.now ≡ get_or program.now.rows.items number row.now }
+    requires within { number < length program.now.rules.items }
+    requires is { program_rule.now ≡ get_or program.now.rules.items number program_rule.now }
     ensures { IfOk result (λ made. IfSome made (λ ranges. AreBlanks program.now ranges.items)) }
 {
-    match row.kind {
-        RuleType::Silent => body_ranges(alloc, program, number, row, &row.body),
+    match program_rule.kind {
+        RuleType::Silent => body_ranges(alloc, program, number, program_rule, &program_rule.body),
         _ => Ok(None),
     }
 }
@@ -140,8 +140,8 @@ fn blank_ranges(alloc: Global, program: &Program) -> Result<Option<Ranges>, NotC
     ensures { IfOk result (λ made. IfSome made (λ ranges. AreBlanks program.now ranges.items)) }
 {
     match program.whitespace {
-        Some(number) => match program.rows.get(number) {
-            Some(row) => silent_ranges(alloc, program, number, row),
+        Some(number) => match program.rules.get(number) {
+            Some(program_rule) => silent_ranges(alloc, program, number, program_rule),
             None => Ok(None),
         },
         None => Ok(Some(Vec::new(alloc))),
@@ -249,12 +249,12 @@ fn plan_ends(plan: &mut Plan<'_>) -> Result<(), NotCompiled>
 
 /// Plans a call of each rule from outside.
 fn plan_entries(program: &Program, plan: &mut Plan<'_>) -> Result<(), NotCompiled>
-    requires few { length program.now.rows.items < 2 ^ 28 }
+    requires few { length program.now.rules.items < 2 ^ 28 }
     ensures later { OnOk result (IsLater program.now plan.old plan.new) }
-    ensures has { OnOk result (HasEntries program.now plan.new (length program.now.rows.items)) }
+    ensures has { OnOk result (HasEntries program.now plan.new (length program.now.rules.items)) }
 {
-    for rule in 0..program.rows.len() {
-        let at = Place {
+    for rule in 0..program.rules.len() {
+        let at = TaskLabels {
             mode: Atomicity::NonAtomic,
             label: rule as u32 + 3,
             next: 1,
@@ -327,7 +327,7 @@ fn finish(alloc: Global, plan: Plan<'_>) -> Result<Code, NotCompiled>
     let ops = write(alloc, &demands)?;
     let Code {
         ops: _,
-        rows,
+        program_rules,
         ranges,
         tables: _,
         texts: _,
@@ -337,13 +337,13 @@ fn finish(alloc: Global, plan: Plan<'_>) -> Result<Code, NotCompiled>
         alloc,
         ops,
         size / TABLE_SIZE,
-        &rows,
+        &program_rules,
         &texts,
         &demands,
     )?;
     let code = Code {
         ops,
-        rows,
+        program_rules,
         ranges,
         tables,
         texts,
@@ -387,10 +387,10 @@ fn compile_with(alloc: Global, program: &Program, calls_all: bool) -> Result<Cod
     ensures is { IfOk result (λ code. IsCodeOf (is_exact (lists_of code)) program.now (lists_of code)) }
     ensures fits { IfOk result (λ code. IsFitting program.now (lists_of code)) }
 {
-    if program.rows.len() >= TOO_MANY_RULES {
+    if program.rules.len() >= TOO_MANY_RULES {
         return Err(NotCompiled::Unsupported);
     }
-    let lasts = last_rows(alloc, program)?;
+    let lasts = last_program_rules(alloc, program)?;
     let mut plan = first_plan(alloc, program)?;
     plan_ends(&mut plan)?;
     plan_entries(program, &mut plan)?;

@@ -11,20 +11,20 @@ ghost use Rattle.matcher_compiler.specs.Plans.{BeginsAt, HasParts, HasTurns, IsB
 
 use crate::forms::FAIL;
 use crate::plan::Plan;
-use crate::points::{Demand, NotCompiled, Part, Place};
+use crate::points::{Demand, NotCompiled, Part, TaskLabels};
 use matcher_code::code::Op;
 use matcher_program::form::{Form, Program};
 use matcher_sets::first_sets::FirstSets;
 use std::alloc::Global;
 
 impl<'p> Plan<'p> {
-    /// Plans a lookahead. An operation pushes a slot first, and if the body matches, the run goes on at
+    /// Plans a lookahead. An operation pushes a frame first, and if the body matches, the run goes on at
     /// `found`.
     pub(crate) fn lookahead(
         &mut self,
         program: &Program,
         body: &'p Form,
-        at: Place,
+        at: TaskLabels,
         fresh: u32,
         begin: Op,
         found: u32,
@@ -43,7 +43,7 @@ impl<'p> Plan<'p> {
         self.operation(last, Op::Ahead { next: found })?;
         self.point(
             Part::Form(body),
-            Place {
+            TaskLabels {
                 label: fresh,
                 next: last,
                 on_fail: FAIL,
@@ -53,13 +53,13 @@ impl<'p> Plan<'p> {
         Ok(())
     }
 
-    /// Plans the parts of a sequence, whose failures go on as the last slot says.
+    /// Plans the parts of a sequence, whose failures go on as the last frame says.
     fn parts(
         &mut self,
         program: &Program,
         first: Part<'p>,
         second: Part<'p>,
-        at: Place,
+        at: TaskLabels,
         fresh: u32,
     ) -> Result<(), NotCompiled>
         requires first_bound { IsBoundPart program.now first }
@@ -74,15 +74,15 @@ impl<'p> Plan<'p> {
         };
         self.point(
             first,
-            Place {
+            TaskLabels {
                 next: fresh,
                 on_fail: FAIL,
                 ..at
             },
         )?;
         self.point(
-            Part::Gap,
-            Place {
+            Part::Trivia,
+            TaskLabels {
                 label: fresh,
                 next: begin,
                 on_fail: FAIL,
@@ -91,7 +91,7 @@ impl<'p> Plan<'p> {
         )?;
         self.point(
             second,
-            Place {
+            TaskLabels {
                 label: begin,
                 on_fail: FAIL,
                 ..at
@@ -100,13 +100,13 @@ impl<'p> Plan<'p> {
         Ok(())
     }
 
-    /// Plans a sequence whose failure goes on as the last slot says.
+    /// Plans a sequence whose failure goes on as the last frame says.
     fn bare_sequence(
         &mut self,
         program: &Program,
         first: Part<'p>,
         second: Part<'p>,
-        at: Place,
+        at: TaskLabels,
         fresh: u32,
     ) -> Result<(), NotCompiled>
         requires first_bound { IsBoundPart program.now first }
@@ -122,13 +122,13 @@ impl<'p> Plan<'p> {
         Ok(())
     }
 
-    /// Plans a sequence with a slot of its own.
+    /// Plans a sequence with a frame of its own.
     fn tried_sequence(
         &mut self,
         program: &Program,
         first: Part<'p>,
         second: Part<'p>,
-        at: Place,
+        at: TaskLabels,
         fresh: u32,
     ) -> Result<(), NotCompiled>
         requires first_bound { IsBoundPart program.now first }
@@ -149,7 +149,7 @@ impl<'p> Plan<'p> {
             },
         )?;
         self.operation(last, Op::Commit { next: at.next })?;
-        let inner = Place {
+        let inner = TaskLabels {
             label: start,
             next: last,
             on_fail: FAIL,
@@ -165,7 +165,7 @@ impl<'p> Plan<'p> {
         program: &Program,
         first: Part<'p>,
         second: Part<'p>,
-        at: Place,
+        at: TaskLabels,
         fresh: u32,
     ) -> Result<(), NotCompiled>
         requires first_bound { IsBoundPart program.now first }
@@ -191,7 +191,7 @@ impl<'p> Plan<'p> {
         program: &Program,
         first_sets: &FirstSets,
         form: &'p Form,
-        at: Place,
+        at: TaskLabels,
         fresh: u32,
     ) -> Result<(), NotCompiled>
         requires sound { IsSoundProgram program.now }
@@ -202,7 +202,7 @@ impl<'p> Plan<'p> {
             (Run (mode_of at.mode) (said program.now form.entry.now)) at) }
     {
         let label = self.enter(alloc, program, first_sets, form, at, fresh)?;
-        self.point(Part::Form(form), Place { label, ..at })?;
+        self.point(Part::Form(form), TaskLabels { label, ..at })?;
         Ok(())
     }
 
@@ -214,7 +214,7 @@ impl<'p> Plan<'p> {
         first_sets: &FirstSets,
         left: &'p Form,
         right: &'p Form,
-        at: Place,
+        at: TaskLabels,
         fresh: u32,
     ) -> Result<(), NotCompiled>
         requires sound { IsSoundProgram program.now }
@@ -247,7 +247,7 @@ impl<'p> Plan<'p> {
         first_sets: &FirstSets,
         left: &'p Form,
         right: &'p Form,
-        at: Place,
+        at: TaskLabels,
         fresh: u32,
     ) -> Result<(), NotCompiled>
         requires sound { IsSoundProgram program.now }
@@ -259,11 +259,11 @@ impl<'p> Plan<'p> {
         ensures lays { OnOk result (LaysAt program.now self.new (Run (mode_of at.mode)
             (Choice (said program.now left.entry.now) (said program.now right.entry.now))) at) }
     {
-        let first = Place {
+        let first = TaskLabels {
             on_fail: fresh,
             ..at
         };
-        let second = Place { label: fresh, ..at };
+        let second = TaskLabels { label: fresh, ..at };
         self.alternative(
             alloc,
             program,
@@ -290,7 +290,7 @@ impl<'p> Plan<'p> {
         program: &Program,
         first_sets: &FirstSets,
         body: &'p Form,
-        at: Place,
+        at: TaskLabels,
         fresh: u32,
     ) -> Result<(), NotCompiled>
         requires sound { IsSoundProgram program.now }
@@ -303,7 +303,7 @@ impl<'p> Plan<'p> {
         if at.next == FAIL {
             return Err(NotCompiled::Unsupported);
         }
-        let tried = Place {
+        let tried = TaskLabels {
             on_fail: at.next,
             ..at
         };
@@ -316,7 +316,7 @@ impl<'p> Plan<'p> {
         &mut self,
         program: &Program,
         body: &'p Form,
-        at: Place,
+        at: TaskLabels,
     ) -> Result<(), NotCompiled>
         requires bound { IsBoundIn program.now body.now }
         requires tight { IsTightIn program.now at.mode }
@@ -330,7 +330,7 @@ impl<'p> Plan<'p> {
         self.demand(Demand::GoesOn { label: at.label })?;
         self.point(
             Part::Form(body),
-            Place {
+            TaskLabels {
                 next: at.label,
                 on_fail: at.next,
                 ..at
@@ -346,7 +346,7 @@ impl<'p> Plan<'p> {
         program: &Program,
         first_sets: &FirstSets,
         body: &'p Form,
-        at: Place,
+        at: TaskLabels,
         fresh: u32,
     ) -> Result<(), NotCompiled>
         requires sound { IsSoundProgram program.now }
@@ -359,7 +359,7 @@ impl<'p> Plan<'p> {
         if at.next == FAIL {
             return Err(NotCompiled::Unsupported);
         }
-        let tried = Place {
+        let tried = TaskLabels {
             on_fail: at.next,
             ..at
         };
@@ -380,7 +380,7 @@ impl<'p> Plan<'p> {
         &mut self,
         program: &Program,
         body: &'p Form,
-        at: Place,
+        at: TaskLabels,
         start: u32,
         fresh: u32,
     ) -> Result<(), NotCompiled>
@@ -390,7 +390,7 @@ impl<'p> Plan<'p> {
         ensures lays { OnOk result (HasTurns program.now self.new
             (said program.now body.entry.now) at start) }
     {
-        let gap = fresh.saturating_add(1);
+        let trivia = fresh.saturating_add(1);
         let first = fresh.saturating_add(2);
         let last = fresh.saturating_add(3);
         self.operation(
@@ -403,15 +403,15 @@ impl<'p> Plan<'p> {
         self.operation(
             fresh,
             Op::Try {
-                next: gap,
+                next: trivia,
                 fail: at.next,
             },
         )?;
         self.operation(last, Op::Commit { next: fresh })?;
         self.point(
-            Part::Gap,
-            Place {
-                label: gap,
+            Part::Trivia,
+            TaskLabels {
+                label: trivia,
                 next: first,
                 on_fail: FAIL,
                 ..at
@@ -419,7 +419,7 @@ impl<'p> Plan<'p> {
         )?;
         self.point(
             Part::Form(body),
-            Place {
+            TaskLabels {
                 label: first,
                 next: last,
                 on_fail: FAIL,

@@ -130,8 +130,8 @@ fn count_forms(alloc: Global, form: &Form) -> Result<u64, AllocError>
 pub(crate) fn uses_stack(alloc: Global, program: &Program) -> Result<bool, AllocError>
     ensures { IfOk result (λ uses. uses ≡ uses_stack program.now) }
 {
-    for row in &program.rows {
-        if has_stack(alloc, &row.body)? {
+    for program_rule in &program.rules {
+        if has_stack(alloc, &program_rule.body)? {
             return Ok(true);
         }
     }
@@ -143,8 +143,8 @@ pub(crate) fn size_of(alloc: Global, program: &Program) -> Result<u64, AllocErro
     ensures { IfOk result (λ size. size ≤ size_of program.now) }
 {
     let mut size: u64 = 0;
-    for row in &program.rows {
-        let forms = count_forms(alloc, &row.body)?;
+    for program_rule in &program.rules {
+        let forms = count_forms(alloc, &program_rule.body)?;
         size = size.saturating_add(forms).saturating_add(1);
     }
     Ok(size)

@@ -12,7 +12,7 @@ ghost use Rattle.matcher_compiler.specs.Plans.{EntersAt, FailsWithout, IsLater, 
 
 use crate::forms::FAIL;
 use crate::plan::Plan;
-use crate::points::{NotCompiled, Place};
+use crate::points::{NotCompiled, TaskLabels};
 use matcher_code::code::Op;
 use matcher_code::ranges::Ranges;
 use matcher_program::form::{Form, Program};
@@ -104,7 +104,7 @@ pub(crate) fn spare_first_set(
 
 impl<'p> Plan<'p> {
     /// Returns whether a test may spare more than it takes. A call in place is as long as the body.
-    fn is_long_at(&self, program: &Program, form: &Form, at: Place) -> bool {
+    fn is_long_at(&self, program: &Program, form: &Form, at: TaskLabels) -> bool {
         match form {
             Form::Call(rule) => match self.placed_body(program, *rule, at) {
                 Some(body) => is_long(body),
@@ -134,7 +134,7 @@ impl<'p> Plan<'p> {
     pub(crate) fn test(
         &mut self,
         first_set: FirstSet,
-        at: Place,
+        at: TaskLabels,
         fresh: u32,
     ) -> Result<u32, NotCompiled>
         ensures later { OnOk result ((p : Program) → IsLater p self.old self.new) }
@@ -168,7 +168,7 @@ impl<'p> Plan<'p> {
         program: &Program,
         first_sets: &FirstSets,
         form: &Form,
-        at: Place,
+        at: TaskLabels,
         fresh: u32,
     ) -> Result<u32, NotCompiled>
         requires sound { IsSoundProgram program.now }
@@ -184,7 +184,7 @@ impl<'p> Plan<'p> {
         self.enter_any(alloc, program, first_sets, form, at, fresh)
     }
 
-    /// Plans a test of the next character before a form, also if a failure goes on as the last slot says.
+    /// Plans a test of the next character before a form, also if a failure goes on as the last frame says.
     /// Returns the label at which the form begins. The labels from `fresh` on are free.
     pub(crate) fn enter_any(
         &mut self,
@@ -192,7 +192,7 @@ impl<'p> Plan<'p> {
         program: &Program,
         first_sets: &FirstSets,
         form: &Form,
-        at: Place,
+        at: TaskLabels,
         fresh: u32,
     ) -> Result<u32, NotCompiled>
         requires sound { IsSoundProgram program.now }
@@ -216,7 +216,7 @@ impl<'p> Plan<'p> {
         program: &Program,
         first_sets: &FirstSets,
         form: &Form,
-        at: Place,
+        at: TaskLabels,
         fresh: u32,
     ) -> Result<u32, NotCompiled>
         requires sound { IsSoundProgram program.now }
@@ -241,7 +241,7 @@ impl<'p> Plan<'p> {
     pub(crate) fn enter_first_set(
         &mut self,
         first_set: Option<FirstSet>,
-        at: Place,
+        at: TaskLabels,
         fresh: u32,
     ) -> Result<u32, NotCompiled>
         ensures later { OnOk result ((p : Program) → IsLater p self.old self.new) }

@@ -13,7 +13,7 @@ ghost use Rattle.matcher_sets.specs.Forms.{IsBoundIn, grammar_in, said};
 ghost use Rattle.matcher_compiler.specs.Plans.{IsLater, IsTightIn, LaysAt, Meets};
 
 use crate::plan::Plan;
-use crate::points::{NotCompiled, Place};
+use crate::points::{NotCompiled, TaskLabels};
 use matcher_code::code::Op;
 use matcher_code::ranges::Ranges;
 use matcher_program::form::{Form, Program};
@@ -23,12 +23,12 @@ use std::alloc::Global;
 /// The label of `Fail`.
 pub(crate) const FAIL: u32 = 0;
 
-/// Returns the number of the rows, which is that of `EOI`.
-fn end_row(program: &Program) -> u32
-    requires { length program.now.rows.items < 2 ^ 28 }
-    ensures { result ≡ length program.now.rows.items }
+/// Returns the number of the program rules, which is that of `EOI`.
+fn end_rule(program: &Program) -> u32
+    requires { length program.now.rules.items < 2 ^ 28 }
+    ensures { result ≡ length program.now.rules.items }
 {
-    program.rows.len() as u32
+    program.rules.len() as u32
 }
 
 impl<'p> Plan<'p> {
@@ -38,7 +38,7 @@ impl<'p> Plan<'p> {
         program: &Program,
         form: &Form,
         ranges: Ranges,
-        at: Place,
+        at: TaskLabels,
     ) -> Result<(), NotCompiled>
         requires ranges { HasRanges program.now form.now ranges.items }
         ensures later { OnOk result (IsLater program.now self.old self.new) }
@@ -63,7 +63,7 @@ impl<'p> Plan<'p> {
         alloc: Global,
         program: &Program,
         form: &Form,
-        at: Place,
+        at: TaskLabels,
     ) -> Result<(), NotCompiled>
         requires bound { IsBoundIn program.now form.now }
         ensures later { OnOk result (IsLater program.now self.old self.new) }
@@ -104,7 +104,7 @@ impl<'p> Plan<'p> {
         second: &Form,
         others: &Ranges,
         ranges: Ranges,
-        at: Place,
+        at: TaskLabels,
     ) -> Result<(), NotCompiled>
         requires refused { HasRefused program.now first.now others.now.items }
         requires ranges { HasRanges program.now second.now ranges.items }
@@ -131,7 +131,7 @@ impl<'p> Plan<'p> {
         alloc: Global,
         program: &Program,
         text: &str,
-        at: Place,
+        at: TaskLabels,
     ) -> Result<(), NotCompiled>
         ensures later { OnOk result (IsLater program.now self.old self.new) }
         ensures lays { OnOk result
@@ -155,7 +155,7 @@ impl<'p> Plan<'p> {
         alloc: Global,
         program: &Program,
         text: &str,
-        at: Place,
+        at: TaskLabels,
     ) -> Result<(), NotCompiled>
         ensures later { OnOk result (IsLater program.now self.old self.new) }
         ensures lays { OnOk result
@@ -203,7 +203,7 @@ impl<'p> Plan<'p> {
         &mut self,
         alloc: Global,
         program: &Program,
-        at: Place,
+        at: TaskLabels,
         fresh: u32,
     ) -> Result<(), NotCompiled>
         requires bound { rule_of (grammar_in program.now) (codes "NEWLINE") ≡ None }
@@ -222,7 +222,7 @@ impl<'p> Plan<'p> {
     }
 
     /// Plans `SOI`.
-    pub(crate) fn start(&mut self, program: &Program, at: Place) -> Result<(), NotCompiled>
+    pub(crate) fn start(&mut self, program: &Program, at: TaskLabels) -> Result<(), NotCompiled>
         requires bound { rule_of (grammar_in program.now) (codes "SOI") ≡ None }
         ensures later { OnOk result (IsLater program.now self.old self.new) }
         ensures lays { OnOk result
@@ -239,7 +239,7 @@ impl<'p> Plan<'p> {
     }
 
     /// Plans `EOI` if it gives no tree, in Atomic.
-    pub(crate) fn bare_end(&mut self, program: &Program, at: Place) -> Result<(), NotCompiled>
+    pub(crate) fn bare_end(&mut self, program: &Program, at: TaskLabels) -> Result<(), NotCompiled>
         requires bound { rule_of (grammar_in program.now) (codes "EOI") ≡ None }
         requires unseen { mode_of at.mode ≡ AtomicMode }
         ensures later { OnOk result (IsLater program.now self.old self.new) }
@@ -260,18 +260,18 @@ impl<'p> Plan<'p> {
     pub(crate) fn end(
         &mut self,
         program: &Program,
-        at: Place,
+        at: TaskLabels,
         fresh: u32,
     ) -> Result<(), NotCompiled>
         requires bound { rule_of (grammar_in program.now) (codes "EOI") ≡ None }
         requires seen { seen_from (mode_of at.mode) ≡ true }
-        requires few { length program.now.rows.items < 2 ^ 28 }
+        requires few { length program.now.rules.items < 2 ^ 28 }
         ensures later { OnOk result (IsLater program.now self.old self.new) }
         ensures lays { OnOk result
             (LaysAt program.now self.new (Run (mode_of at.mode) (Ident (codes "EOI"))) at) }
     {
         let note = fresh.saturating_add(1);
-        let row = end_row(program);
+        let rule = end_rule(program);
         self.operation(
             at.label,
             Op::End {
@@ -279,11 +279,17 @@ impl<'p> Plan<'p> {
                 fail: note,
             },
         )?;
-        self.operation(fresh, Op::Leaf { row, next: at.next })?;
+        self.operation(
+            fresh,
+            Op::Leaf {
+                rule,
+                next: at.next,
+            },
+        )?;
         self.operation(
             note,
             Op::Miss {
-                row,
+                rule,
                 next: at.on_fail,
             },
         )?;

@@ -9,11 +9,11 @@ ghost use Rattle.matcher_program.specs.declared.form.Program.{Program};
 /// Code of a grammar without the stack does not use the stack.
 pub fn rules_without_stack_have_stackless_code()
     ensures { (p : Program) (code : CodeLists) → IsFitting p code
-        → grammar_stack (grammar_of p.rows.items) ≡ false → is_stackless code ≡ true }
+        → grammar_stack (grammar_of p.rules.items) ≡ false → is_stackless code ≡ true }
 {}
 
 /// The number of operations is linear in the size of the grammar.
 pub fn code_is_linear_in_rules()
     ensures { (p : Program) (code : CodeLists) → IsFitting p code
-        → length code.ops ≤ most_operations (grammar_size (grammar_of p.rows.items)) }
+        → length code.ops ≤ most_operations (grammar_size (grammar_of p.rules.items)) }
 {}

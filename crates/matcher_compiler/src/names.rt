@@ -8,37 +8,38 @@ ghost use Rattle.base_language.specs.Language.Text.{Text};
 ghost use Rattle.matcher_program.specs.Programs.{grammar_of};
 ghost use Rattle.matcher_compiler.specs.Names.{AreLast, HasNumber, HaveNumbers, number_in};
 
-use matcher_program::form::{Program, Row};
+use matcher_program::form::{Program, ProgramRule};
 use matcher_program::texts::same;
 use std::alloc::{AllocError, Global};
 use std::collections::HashMap;
 
-/// Returns the index of the last row of a name.
-pub fn last_index(rows: &[Row], name: &str) -> Option<usize>
-    ensures { result ≡ last_place (grammar_of rows.now) (chars name.now) }
+/// Returns the index of the last program rule of a name.
+pub fn last_index(program_rules: &[ProgramRule], name: &str) -> Option<usize>
+    ensures { result ≡ last_place (grammar_of program_rules.now) (chars name.now) }
 {
-    let mut below = rows.len();
+    let mut below = program_rules.len();
     while below > 0 {
         below -= 1;
-        if same(rows[below].name.as_str(), name) {
+        if same(program_rules[below].name.as_str(), name) {
             return Some(below);
         }
     }
     None
 }
 
-/// Returns for each row the index of the last row of its name. The only error is an allocation failure.
-pub(crate) fn last_rows(alloc: Global, program: &Program) -> Result<Vec<usize>, AllocError>
-    ensures { IfOk result (λ lasts. AreLast program.now.rows.items lasts.items) }
+/// Returns for each program rule the index of the last program rule of its name. The only error is an
+/// allocation failure.
+pub(crate) fn last_program_rules(alloc: Global, program: &Program) -> Result<Vec<usize>, AllocError>
+    ensures { IfOk result (λ lasts. AreLast program.now.rules.items lasts.items) }
 {
-    let rows = program.rows.as_slice();
+    let program_rules = program.rules.as_slice();
     let mut lasts = Vec::new(alloc);
-    lasts.resize(rows.len(), 0)?;
+    lasts.resize(program_rules.len(), 0)?;
     let mut later: HashMap<String, usize> = HashMap::new(alloc);
-    let mut below = rows.len();
+    let mut below = program_rules.len();
     while below > 0 {
         below -= 1;
-        let name = rows[below].name.as_str();
+        let name = program_rules[below].name.as_str();
         match later.get(name) {
             Some(last) => lasts[below] = *last,
             None => {

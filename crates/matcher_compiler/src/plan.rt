@@ -3,7 +3,7 @@ ghost use Rattle.matcher_code.specs.Lists.{CodeLists};
 ghost use Rattle.matcher_code.specs.Sets.{IsAligned};
 ghost use Rattle.matcher_compiler.specs.Sets.{AreKnownIn, IsKnownIn};
 
-use crate::points::{Demand, NotCompiled, Part, Place, Point};
+use crate::points::{Demand, NotCompiled, Part, Point, TaskLabels};
 use crate::sets::{KnownSet, key_of, known_set, set_place};
 use matcher_code::code::{Code, Op};
 use matcher_code::ranges::Ranges;
@@ -99,7 +99,7 @@ impl<'p> Plan<'p> {
     }
 
     /// Adds a point of a rank below that of a place.
-    pub(crate) fn point(&mut self, part: Part<'p>, at: Place) -> Result<(), NotCompiled>
+    pub(crate) fn point(&mut self, part: Part<'p>, at: TaskLabels) -> Result<(), NotCompiled>
         ensures later { OnOk result ((p : Program) → IsBoundPart p part.entry
             → IsLater p self.old self.new) }
         ensures has { OnOk result ((p : Program) (code : CodeLists) (laid : List lay.Point)
@@ -112,7 +112,7 @@ impl<'p> Plan<'p> {
         let rank = at.rank - 1;
         let point = Point {
             part,
-            at: Place { rank, ..at },
+            at: TaskLabels { rank, ..at },
         };
         if self.points.push(point).is_err() {
             return Err(NotCompiled::Memory);
@@ -130,7 +130,7 @@ impl<'p> Plan<'p> {
         if before >= 0xffff_ffff {
             return Err(NotCompiled::Unsupported);
         }
-        let copy = Vec::from_slice(*self.sets.rows.allocator(), ranges.as_slice())?;
+        let copy = Vec::from_slice(*self.sets.rules.allocator(), ranges.as_slice())?;
         let key = key_of(&ranges);
         let number = add_set(&mut self.sets, ranges)?;
         if number as usize >= self.sets.ranges.len() {

@@ -11,7 +11,7 @@ ghost use Rattle.matcher_compiler.specs.Plans.{AreBound, IsBoundPart, IsLater, I
 ghost use Rattle.matcher_compiler.specs.declared.points.Point.{Point};
 
 use crate::plan::Plan;
-use crate::points::{Demand, NotCompiled, Part, Place, Point};
+use crate::points::{Demand, NotCompiled, Part, Point, TaskLabels};
 use crate::spans::repeated_ranges;
 use matcher_code::code::Op;
 use matcher_program::form::{Form, Program};
@@ -52,9 +52,14 @@ fn free_of_demands(demands: &[Demand], start: usize, from: u32) -> u32 {
 
 impl<'p> Plan<'p> {
     /// Plans the end of a text.
-    fn end_of_text(&mut self, program: &Program, at: Place, fresh: u32) -> Result<(), NotCompiled>
+    fn end_of_text(
+        &mut self,
+        program: &Program,
+        at: TaskLabels,
+        fresh: u32,
+    ) -> Result<(), NotCompiled>
         requires bound { IsBoundIn program.now form.End }
-        requires few { length program.now.rows.items < 2 ^ 28 }
+        requires few { length program.now.rules.items < 2 ^ 28 }
         ensures later { OnOk result (IsLater program.now self.old self.new) }
         ensures lays { OnOk result
             (LaysAt program.now self.new (Run (mode_of at.mode) (said program.now form.End)) at) }
@@ -72,7 +77,7 @@ impl<'p> Plan<'p> {
         program: &Program,
         first_sets: &FirstSets,
         body: &'p Form,
-        at: Place,
+        at: TaskLabels,
         fresh: u32,
     ) -> Result<(), NotCompiled>
         requires sound { IsSoundProgram program.now }
@@ -100,7 +105,7 @@ impl<'p> Plan<'p> {
         program: &Program,
         first_sets: &FirstSets,
         body: &'p Form,
-        at: Place,
+        at: TaskLabels,
         fresh: u32,
     ) -> Result<(), NotCompiled>
         requires sound { IsSoundProgram program.now }
@@ -123,7 +128,7 @@ impl<'p> Plan<'p> {
         &mut self,
         program: &Program,
         body: &'p Form,
-        at: Place,
+        at: TaskLabels,
     ) -> Result<(), NotCompiled>
         requires bound { IsBoundIn program.now body.now }
         ensures later { OnOk result (IsLater program.now self.old self.new) }
@@ -140,7 +145,7 @@ impl<'p> Plan<'p> {
         program: &Program,
         body: &'p Form,
         tag: &str,
-        at: Place,
+        at: TaskLabels,
     ) -> Result<(), NotCompiled>
         requires bound { IsBoundIn program.now body.now }
         ensures later { OnOk result (IsLater program.now self.old self.new) }
@@ -152,7 +157,12 @@ impl<'p> Plan<'p> {
     }
 
     /// Plans an expression whose failure restores the stack.
-    fn restore(&mut self, program: &Program, body: &'p Form, at: Place) -> Result<(), NotCompiled>
+    fn restore(
+        &mut self,
+        program: &Program,
+        body: &'p Form,
+        at: TaskLabels,
+    ) -> Result<(), NotCompiled>
         requires bound { IsBoundIn program.now body.now }
         ensures later { OnOk result (IsLater program.now self.old self.new) }
         ensures lays { OnOk result (LaysAt program.now self.new (Run (mode_of at.mode)
@@ -167,7 +177,7 @@ impl<'p> Plan<'p> {
         &mut self,
         program: &Program,
         body: &'p Form,
-        at: Place,
+        at: TaskLabels,
         fresh: u32,
     ) -> Result<(), NotCompiled>
         requires bound { IsBoundIn program.now body.now }
@@ -188,7 +198,7 @@ impl<'p> Plan<'p> {
         &mut self,
         program: &Program,
         body: &'p Form,
-        at: Place,
+        at: TaskLabels,
         fresh: u32,
     ) -> Result<(), NotCompiled>
         requires bound { IsBoundIn program.now body.now }
@@ -210,7 +220,7 @@ impl<'p> Plan<'p> {
         &mut self,
         program: &Program,
         body: &'p Form,
-        at: Place,
+        at: TaskLabels,
         fresh: u32,
     ) -> Result<(), NotCompiled>
         requires bound { IsBoundIn program.now body.now }
@@ -234,7 +244,7 @@ impl<'p> Plan<'p> {
         form: &Form,
         left: &'p Form,
         right: &'p Form,
-        at: Place,
+        at: TaskLabels,
         fresh: u32,
     ) -> Result<(), NotCompiled>
         requires sound { IsSoundProgram program.now }
@@ -263,13 +273,13 @@ impl<'p> Plan<'p> {
         first_sets: &FirstSets,
         lasts: &[usize],
         form: &'p Form,
-        at: Place,
+        at: TaskLabels,
         fresh: u32,
     ) -> Result<(), NotCompiled>
         requires sound { IsSoundProgram program.now }
         requires first_sets { AreFirstSets program.now first_sets.now }
-        requires lasts { AreLast program.now.rows.items lasts.now }
-        requires few { length program.now.rows.items < 2 ^ 28 }
+        requires lasts { AreLast program.now.rules.items lasts.now }
+        requires few { length program.now.rules.items < 2 ^ 28 }
         requires ready { IsReady program.now self.old }
         requires bound { IsBoundIn program.now form.now }
         ensures later { OnOk result (IsLater program.now self.old self.new) }
@@ -324,8 +334,8 @@ impl<'p> Plan<'p> {
     ) -> Result<(), NotCompiled>
         requires sound { IsSoundProgram program.now }
         requires first_sets { AreFirstSets program.now first_sets.now }
-        requires lasts { AreLast program.now.rows.items lasts.now }
-        requires few { length program.now.rows.items < 2 ^ 28 }
+        requires lasts { AreLast program.now.rules.items lasts.now }
+        requires few { length program.now.rules.items < 2 ^ 28 }
         requires ready { IsReady program.now self.old }
         requires bound { IsBoundPart program.now point.part }
         ensures later { OnOk result (IsLater program.entry.now self.old self.new) }
@@ -337,18 +347,26 @@ impl<'p> Plan<'p> {
             Part::Form(form) => self.form(alloc, program, first_sets, lasts, form, at, fresh),
             Part::OnceOrMore(body) => { self.once_and_turns(program, body, at, fresh) }
             Part::Repetition(body) => self.turns(alloc, program, first_sets, body, at, fresh),
-            Part::Body(rule) => match program.rows.get(rule) {
-                Some(row) => {
-                    let inside = Place {
+            Part::Body(rule) => match program.rules.get(rule) {
+                Some(program_rule) => {
+                    let inside = TaskLabels {
                         around: (number & 0xffff_ffff) as u32,
                         ..at
                     };
-                    self.form(alloc, program, first_sets, lasts, &row.body, inside, fresh)
+                    self.form(
+                        alloc,
+                        program,
+                        first_sets,
+                        lasts,
+                        &program_rule.body,
+                        inside,
+                        fresh,
+                    )
                 }
                 None => Err(NotCompiled::Unsupported),
             },
             Part::Rule(rule) => self.call(program, lasts, rule, at, fresh),
-            Part::Gap => self.gap(program, at, fresh),
+            Part::Trivia => self.trivia(program, at, fresh),
             Part::Skipped => self.plan_skipping(alloc, program, first_sets, at, fresh),
             Part::Blanks => self.blanks(alloc, program, first_sets, at, fresh),
             Part::BlankCall => self.blank_call(program, lasts, at, fresh),
@@ -369,15 +387,15 @@ impl<'p> Plan<'p> {
     ) -> Result<(), NotCompiled>
         requires sound { IsSoundProgram program.now }
         requires first_sets { AreFirstSets program.now first_sets.now }
-        requires lasts { AreLast program.now.rows.items lasts.now }
-        requires few { length program.now.rows.items < 2 ^ 28 }
+        requires lasts { AreLast program.now.rules.items lasts.now }
+        requires few { length program.now.rules.items < 2 ^ 28 }
         requires ready { IsReady program.now self.old }
         requires bound { AreBound program.now self.old }
         ensures later { OnOk result (IsLater program.entry.now self.old self.new) }
         ensures lays { OnOk result ((i : ℕ) (d : Point) → i < length self.new.points.items
             → LaysPoint program.entry.now self.new (get_or self.new.points.items i d)) }
     {
-        let mut fresh = first_free(program.rows.len());
+        let mut fresh = first_free(program.rules.len());
         for number in 0..usize::MAX {
             let point = match self.points.get(number) {
                 Some(point) => *point,

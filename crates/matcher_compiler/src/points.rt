@@ -17,7 +17,7 @@ pub enum Part<'p> {
     /// A call of the rule of a number.
     Rule(usize),
     /// The implicit skipping.
-    Gap,
+    Trivia,
     /// The implicit skipping, as the expression that it is.
     Skipped,
     /// Calls of `WHITESPACE` until one fails, in the implicit skipping.
@@ -44,7 +44,7 @@ pub(crate) const TOP_RANK: u32 = 0xffff_ffff;
 /// Its parts have lower ranks. `around` is the number of the point of the innermost body around, of a rule
 /// that is called in place or not.
 #[derive(Clone, Copy)]
-pub struct Place {
+pub struct TaskLabels {
     pub mode: Atomicity,
     pub label: u32,
     pub next: u32,
@@ -57,7 +57,7 @@ pub struct Place {
 #[derive(Clone, Copy)]
 pub struct Point<'p> {
     pub part: Part<'p>,
-    pub at: Place,
+    pub at: TaskLabels,
 }
 
 /// A choice by a table: the table's first index, the set of characters with which the first alternative

@@ -10,18 +10,18 @@ ghost use Rattle.matcher_compiler.specs.Plans.{IsLater, LaysAt, Meets};
 
 use crate::forms::FAIL;
 use crate::plan::Plan;
-use crate::points::{NotCompiled, Part, Place};
+use crate::points::{NotCompiled, Part, TaskLabels};
 use matcher_code::code::Op;
 use matcher_program::form::{Form, Program};
 
 impl<'p> Plan<'p> {
     /// Returns the label at which the skipping goes on that begins at a label: that label itself, if nothing
     /// is skipped, or else the next one.
-    fn behind_gap(&self, at: Place, gap: u32) -> u32 {
+    fn behind_trivia(&self, at: TaskLabels, trivia: u32) -> u32 {
         if self.is_tight(at.mode) {
-            gap
+            trivia
         } else {
-            gap.saturating_add(1)
+            trivia.saturating_add(1)
         }
     }
 
@@ -31,7 +31,7 @@ impl<'p> Plan<'p> {
         &mut self,
         program: &Program,
         body: &'p Form,
-        at: Place,
+        at: TaskLabels,
         fresh: u32,
     ) -> Result<(), NotCompiled>
         requires bound { IsBoundIn program.now body.now }
@@ -43,11 +43,11 @@ impl<'p> Plan<'p> {
     {
         let last = fresh.saturating_add(1);
         let end = fresh.saturating_add(2);
-        let gap = fresh.saturating_add(3);
-        let again = self.behind_gap(at, gap);
+        let trivia = fresh.saturating_add(3);
+        let again = self.behind_trivia(at, trivia);
         self.point(
             Part::Form(body),
-            Place {
+            TaskLabels {
                 label: fresh,
                 next: last,
                 on_fail: FAIL,
@@ -58,14 +58,14 @@ impl<'p> Plan<'p> {
         self.operation(
             at.label,
             Op::Try {
-                next: gap,
+                next: trivia,
                 fail: at.next,
             },
         )?;
         self.point(
-            Part::Gap,
-            Place {
-                label: gap,
+            Part::Trivia,
+            TaskLabels {
+                label: trivia,
                 next: again,
                 on_fail: FAIL,
                 ..at
@@ -89,7 +89,7 @@ impl<'p> Plan<'p> {
         &mut self,
         program: &Program,
         body: &'p Form,
-        at: Place,
+        at: TaskLabels,
         fresh: u32,
     ) -> Result<(), NotCompiled>
         requires bound { IsBoundIn program.now body.now }
@@ -100,8 +100,8 @@ impl<'p> Plan<'p> {
         let start = fresh.saturating_add(5);
         let turn = fresh.saturating_add(6);
         let end = fresh.saturating_add(7);
-        let gap = fresh.saturating_add(8);
-        let again = self.behind_gap(at, gap);
+        let trivia = fresh.saturating_add(8);
+        let again = self.behind_trivia(at, trivia);
         self.operation(
             at.label,
             Op::Try {
@@ -113,14 +113,14 @@ impl<'p> Plan<'p> {
             start,
             Op::Sub {
                 to: fresh,
-                next: gap,
+                next: trivia,
                 fail: FAIL,
             },
         )?;
         self.point(
-            Part::Gap,
-            Place {
-                label: gap,
+            Part::Trivia,
+            TaskLabels {
+                label: trivia,
                 next: again,
                 on_fail: FAIL,
                 ..at
@@ -135,7 +135,7 @@ impl<'p> Plan<'p> {
             },
         )?;
         self.operation(end, Op::Commit { next: at.next })?;
-        let turns = Place {
+        let turns = TaskLabels {
             label: turn,
             next: end,
             ..at

@@ -10,10 +10,10 @@ ghost use Rattle.matcher_compiler.specs.Plans.{FailsWithout, IsBlankSet, IsLater
 
 use crate::firsts::spare_first_set;
 use crate::forms::FAIL;
-use crate::gaps::comment_first_set;
 use crate::plan::{Plan, Skips};
-use crate::points::{NotCompiled, Part, Place};
+use crate::points::{NotCompiled, Part, TaskLabels};
 use crate::spans::span_ranges;
+use crate::trivia::comment_first_set;
 use matcher_code::code::Op;
 use matcher_program::form::{Form, Program};
 use matcher_sets::difference::{MOST_RANGES, choice_ranges, refused_ranges};
@@ -28,7 +28,7 @@ impl<'p> Plan<'p> {
         program: &Program,
         set: u32,
         first_set: FirstSet,
-        at: Place,
+        at: TaskLabels,
         fresh: u32,
     ) -> Result<(), NotCompiled>
         requires set { IsBlankSet program.now self.old.sets set }
@@ -50,7 +50,7 @@ impl<'p> Plan<'p> {
         let stops = self.set(ranges)?;
         self.operation(
             at.label,
-            Op::Gap {
+            Op::Trivia {
                 set,
                 stops,
                 next: miss,
@@ -59,7 +59,7 @@ impl<'p> Plan<'p> {
         )?;
         self.point(
             Part::Comments,
-            Place {
+            TaskLabels {
                 label: fresh,
                 on_fail: FAIL,
                 ..at
@@ -75,7 +75,7 @@ impl<'p> Plan<'p> {
         program: &Program,
         first_sets: &FirstSets,
         set: u32,
-        at: Place,
+        at: TaskLabels,
         fresh: u32,
     ) -> Result<(), NotCompiled>
         requires sound { IsSoundProgram program.now }
@@ -93,16 +93,16 @@ impl<'p> Plan<'p> {
     }
 
     /// Plans a sequence with blanks of a set between its parts, and a test of the next character. If no
-    /// character of a FIRST set is next, the second part takes nothing. A failure goes on as the last slot
+    /// character of a FIRST set is next, the second part takes nothing. A failure goes on as the last frame
     /// says. The labels from `fresh` on are free.
-    fn gap_sequence(
+    fn trivia_sequence(
         &mut self,
         program: &Program,
         set: u32,
         first_set: FirstSet,
         first: &'p Form,
         second: &'p Form,
-        at: Place,
+        at: TaskLabels,
         fresh: u32,
     ) -> Result<(), NotCompiled>
         requires first_bound { IsBoundIn program.now first.now }
@@ -131,15 +131,15 @@ impl<'p> Plan<'p> {
         let stops = self.set(ranges)?;
         self.operation(
             fresh,
-            Op::Gap {
+            Op::Trivia {
                 set,
                 stops,
                 next: miss,
                 slow: begin,
             },
         )?;
-        self.point(Part::Form(first), Place { next: fresh, ..at })?;
-        self.point(Part::Form(second), Place { label: begin, ..at })?;
+        self.point(Part::Form(first), TaskLabels { next: fresh, ..at })?;
+        self.point(Part::Form(second), TaskLabels { label: begin, ..at })?;
         Ok(())
     }
 
@@ -151,7 +151,7 @@ impl<'p> Plan<'p> {
         program: &Program,
         first: &'p Form,
         second: &'p Form,
-        at: Place,
+        at: TaskLabels,
         fresh: u32,
     ) -> Result<(), NotCompiled>
         requires first_bound { IsBoundIn program.now first.now }
@@ -186,7 +186,7 @@ impl<'p> Plan<'p> {
         first_sets: &FirstSets,
         first: &'p Form,
         second: &'p Form,
-        at: Place,
+        at: TaskLabels,
         fresh: u32,
     ) -> Result<(), NotCompiled>
         requires sound { IsSoundProgram program.now }
@@ -219,7 +219,7 @@ impl<'p> Plan<'p> {
         set: u32,
         first: &'p Form,
         second: &'p Form,
-        at: Place,
+        at: TaskLabels,
         fresh: u32,
     ) -> Result<(), NotCompiled>
         requires sound { IsSoundProgram program.now }
@@ -238,7 +238,9 @@ impl<'p> Plan<'p> {
         }
         let made = spare_first_set(alloc, program, first_sets, second, at.mode)?;
         match made {
-            Some(first_set) => self.gap_sequence(program, set, first_set, first, second, at, fresh),
+            Some(first_set) => self.trivia_sequence(
+                program, set, first_set, first, second, at, fresh,
+            ),
             None => self.both(program, first, second, at, fresh),
         }
     }
@@ -251,7 +253,7 @@ impl<'p> Plan<'p> {
         first_sets: &FirstSets,
         first: &'p Form,
         second: &'p Form,
-        at: Place,
+        at: TaskLabels,
         fresh: u32,
     ) -> Result<(), NotCompiled>
         requires sound { IsSoundProgram program.now }
@@ -280,7 +282,7 @@ impl<'p> Plan<'p> {
         first_sets: &FirstSets,
         first: &'p Form,
         second: &'p Form,
-        at: Place,
+        at: TaskLabels,
         fresh: u32,
     ) -> Result<(), NotCompiled>
         requires sound { IsSoundProgram program.now }
@@ -305,7 +307,7 @@ impl<'p> Plan<'p> {
         program: &Program,
         first: &'p Form,
         second: &'p Form,
-        at: Place,
+        at: TaskLabels,
         fresh: u32,
     ) -> Result<(), NotCompiled>
         requires first_bound { IsBoundIn program.now first.now }

@@ -9,7 +9,7 @@ ghost use Rattle.matcher_compiler.specs.Plans.{FailsBefore, IsLater, IsTightIn, 
 
 use crate::forms::FAIL;
 use crate::plan::Plan;
-use crate::points::{Demand, NotCompiled, Part, Place};
+use crate::points::{Demand, NotCompiled, Part, TaskLabels};
 use matcher_code::code::Op;
 use matcher_code::ranges::Ranges;
 use matcher_program::form::{Form, Program};
@@ -196,7 +196,7 @@ impl<'p> Plan<'p> {
         program: &Program,
         body: &'p Form,
         ranges: Ranges,
-        at: Place,
+        at: TaskLabels,
         fresh: u32,
     ) -> Result<(), NotCompiled>
         requires bound { IsBoundIn program.now body.now }
@@ -215,7 +215,7 @@ impl<'p> Plan<'p> {
         self.operation(at.label, Op::All { set, next: fresh })?;
         self.point(
             Part::Form(body),
-            Place {
+            TaskLabels {
                 label: fresh,
                 next: at.label,
                 on_fail: at.next,
@@ -232,7 +232,7 @@ impl<'p> Plan<'p> {
         program: &Program,
         first_sets: &FirstSets,
         body: &'p Form,
-        at: Place,
+        at: TaskLabels,
         fresh: u32,
     ) -> Result<(), NotCompiled>
         requires sound { IsSoundProgram program.now }

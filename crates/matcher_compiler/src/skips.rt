@@ -8,7 +8,7 @@ ghost use Rattle.matcher_sets.specs.Modes.{mode_of};
 ghost use Rattle.matcher_compiler.specs.Plans.{IsLater, LaysAt};
 
 use crate::plan::Plan;
-use crate::points::{NotCompiled, Place};
+use crate::points::{NotCompiled, TaskLabels};
 use crate::spans::searched_ranges;
 use matcher_code::code::Op;
 use matcher_code::ranges::Ranges;
@@ -23,7 +23,7 @@ impl<'p> Plan<'p> {
         alloc: Global,
         program: &Program,
         texts: &Vec<String>,
-        at: Place,
+        at: TaskLabels,
     ) -> Result<(), NotCompiled>
         ensures later { OnOk result (IsLater program.now self.old self.new) }
         ensures lays { OnOk result (LaysAt program.now self.new
@@ -46,7 +46,7 @@ impl<'p> Plan<'p> {
         program: &Program,
         texts: &Vec<String>,
         ranges: Ranges,
-        at: Place,
+        at: TaskLabels,
     ) -> Result<(), NotCompiled>
         requires starts { StartIn ranges.items (map text_of texts.now.items) }
         ensures later { OnOk result (IsLater program.now self.old self.new) }
@@ -72,7 +72,7 @@ impl<'p> Plan<'p> {
         alloc: Global,
         program: &Program,
         texts: &Vec<String>,
-        at: Place,
+        at: TaskLabels,
     ) -> Result<(), NotCompiled>
         ensures later { OnOk result (IsLater program.now self.old self.new) }
         ensures lays { OnOk result (LaysAt program.now self.new

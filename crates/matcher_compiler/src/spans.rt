@@ -13,7 +13,7 @@ ghost use Rattle.matcher_compiler.specs.Plans.{IsLater, IsTightIn, LaysAt, Takes
 use crate::firsts::spare_first_set;
 use crate::forms::FAIL;
 use crate::plan::Plan;
-use crate::points::{NotCompiled, Part, Place};
+use crate::points::{NotCompiled, Part, TaskLabels};
 use matcher_code::code::Op;
 use matcher_code::ranges::Ranges;
 use matcher_program::form::{Form, Program};
@@ -140,7 +140,7 @@ pub(crate) fn span_ranges(
 
 impl<'p> Plan<'p> {
     /// Plans a task that is a span.
-    pub(crate) fn span(&mut self, ranges: Ranges, at: Place) -> Result<(), NotCompiled>
+    pub(crate) fn span(&mut self, ranges: Ranges, at: TaskLabels) -> Result<(), NotCompiled>
         ensures later { OnOk result ((p : Program) → IsLater p self.old self.new) }
         ensures lays { OnOk result ((p : Program) (k : Task) → TakesSpanIn p k ranges.items
             → LaysAt p self.new k at) }
@@ -151,14 +151,14 @@ impl<'p> Plan<'p> {
     }
 
     /// Plans a sequence of a span and a form that takes nothing if no character of a FIRST set is next. A
-    /// failure goes on as the last slot says. The labels from `fresh` on are free.
+    /// failure goes on as the last frame says. The labels from `fresh` on are free.
     fn span_sequence(
         &mut self,
         program: &Program,
         ranges: Ranges,
         first_set: FirstSet,
         second: &'p Form,
-        at: Place,
+        at: TaskLabels,
         fresh: u32,
     ) -> Result<(), NotCompiled>
         requires bound { IsBoundIn program.now second.now }
@@ -185,14 +185,14 @@ impl<'p> Plan<'p> {
         let stops = self.set(firsts)?;
         self.operation(
             at.label,
-            Op::Gap {
+            Op::Trivia {
                 set,
                 stops,
                 next: miss,
                 slow: fresh,
             },
         )?;
-        self.point(Part::Form(second), Place { label: fresh, ..at })?;
+        self.point(Part::Form(second), TaskLabels { label: fresh, ..at })?;
         Ok(())
     }
 
@@ -206,7 +206,7 @@ impl<'p> Plan<'p> {
         ranges: Ranges,
         first: &'p Form,
         second: &'p Form,
-        at: Place,
+        at: TaskLabels,
         fresh: u32,
     ) -> Result<(), NotCompiled>
         requires sound { IsSoundProgram program.now }

@@ -8,7 +8,7 @@ ghost use Rattle.matcher_compiler.specs.Plans.{IsLater, LaysAt};
 
 use crate::forms::FAIL;
 use crate::plan::Plan;
-use crate::points::{NotCompiled, Part, Place};
+use crate::points::{NotCompiled, Part, TaskLabels};
 use matcher_code::code::Op;
 use matcher_program::form::{Form, Program};
 use std::alloc::Global;
@@ -19,7 +19,7 @@ impl<'p> Plan<'p> {
         &mut self,
         program: &Program,
         body: &'p Form,
-        at: Place,
+        at: TaskLabels,
         fresh: u32,
     ) -> Result<(), NotCompiled>
         requires bound { IsBoundIn program.now body.now }
@@ -38,7 +38,7 @@ impl<'p> Plan<'p> {
         self.operation(last, Op::Push { next: at.next })?;
         self.point(
             Part::Form(body),
-            Place {
+            TaskLabels {
                 label: fresh,
                 next: last,
                 on_fail: FAIL,
@@ -54,7 +54,7 @@ impl<'p> Plan<'p> {
         alloc: Global,
         program: &Program,
         text: &str,
-        at: Place,
+        at: TaskLabels,
     ) -> Result<(), NotCompiled>
         ensures later { OnOk result (IsLater program.now self.old self.new) }
         ensures lays { OnOk result (LaysAt program.now self.new
@@ -72,7 +72,7 @@ impl<'p> Plan<'p> {
     }
 
     /// Plans `PEEK`.
-    pub(crate) fn peek(&mut self, program: &Program, at: Place) -> Result<(), NotCompiled>
+    pub(crate) fn peek(&mut self, program: &Program, at: TaskLabels) -> Result<(), NotCompiled>
         requires bound { rule_of (grammar_in program.now) (codes "PEEK") ≡ None }
         ensures later { OnOk result (IsLater program.now self.old self.new) }
         ensures lays { OnOk result
@@ -89,7 +89,7 @@ impl<'p> Plan<'p> {
     }
 
     /// Plans `POP`.
-    pub(crate) fn pop(&mut self, program: &Program, at: Place) -> Result<(), NotCompiled>
+    pub(crate) fn pop(&mut self, program: &Program, at: TaskLabels) -> Result<(), NotCompiled>
         requires bound { rule_of (grammar_in program.now) (codes "POP") ≡ None }
         ensures later { OnOk result (IsLater program.now self.old self.new) }
         ensures lays { OnOk result
@@ -106,7 +106,7 @@ impl<'p> Plan<'p> {
     }
 
     /// Plans `DROP`.
-    pub(crate) fn discard(&mut self, program: &Program, at: Place) -> Result<(), NotCompiled>
+    pub(crate) fn discard(&mut self, program: &Program, at: TaskLabels) -> Result<(), NotCompiled>
         requires bound { rule_of (grammar_in program.now) (codes "DROP") ≡ None }
         ensures later { OnOk result (IsLater program.now self.old self.new) }
         ensures lays { OnOk result
@@ -123,7 +123,7 @@ impl<'p> Plan<'p> {
     }
 
     /// Plans `PEEK_ALL`.
-    pub(crate) fn peek_all(&mut self, program: &Program, at: Place) -> Result<(), NotCompiled>
+    pub(crate) fn peek_all(&mut self, program: &Program, at: TaskLabels) -> Result<(), NotCompiled>
         requires bound { rule_of (grammar_in program.now) (codes "PEEK_ALL") ≡ None }
         ensures later { OnOk result (IsLater program.now self.old self.new) }
         ensures lays { OnOk result
@@ -140,7 +140,7 @@ impl<'p> Plan<'p> {
     }
 
     /// Plans `POP_ALL`.
-    pub(crate) fn pop_all(&mut self, program: &Program, at: Place) -> Result<(), NotCompiled>
+    pub(crate) fn pop_all(&mut self, program: &Program, at: TaskLabels) -> Result<(), NotCompiled>
         requires bound { rule_of (grammar_in program.now) (codes "POP_ALL") ≡ None }
         ensures later { OnOk result (IsLater program.now self.old self.new) }
         ensures lays { OnOk result
@@ -162,7 +162,7 @@ impl<'p> Plan<'p> {
         program: &Program,
         from: i32,
         to: Option<i32>,
-        at: Place,
+        at: TaskLabels,
     ) -> Result<(), NotCompiled>
         ensures later { OnOk result (IsLater program.now self.old self.new) }
         ensures lays { OnOk result

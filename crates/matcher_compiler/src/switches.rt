@@ -10,7 +10,7 @@ ghost use Rattle.matcher_compiler.specs.Plans.{BranchesAt, FailsWithout, IsLater
 
 use crate::firsts::narrow_first_set;
 use crate::plan::Plan;
-use crate::points::{Branch, Demand, NotCompiled, Part, Place};
+use crate::points::{Branch, Demand, NotCompiled, Part, TaskLabels};
 use crate::tables::TABLE_SIZE;
 use matcher_code::code::Op;
 use matcher_program::form::{Form, Program};
@@ -55,7 +55,7 @@ impl<'p> Plan<'p> {
     fn table(
         &mut self,
         first_set: FirstSet,
-        at: Place,
+        at: TaskLabels,
         first: u32,
         second: u32,
     ) -> Result<(), NotCompiled>
@@ -93,7 +93,7 @@ impl<'p> Plan<'p> {
         first_set: FirstSet,
         left: &'p Form,
         right: &'p Form,
-        at: Place,
+        at: TaskLabels,
         fresh: u32,
     ) -> Result<(), NotCompiled>
         requires sound { IsSoundProgram program.now }
@@ -109,13 +109,13 @@ impl<'p> Plan<'p> {
     {
         let label = fresh.saturating_add(1);
         self.table(first_set, at, label, fresh)?;
-        let first = Place {
+        let first = TaskLabels {
             label,
             on_fail: fresh,
             ..at
         };
         self.point(Part::Form(left), first)?;
-        let second = Place { label: fresh, ..at };
+        let second = TaskLabels { label: fresh, ..at };
         let label = self.enter_any(
             alloc,
             program,
@@ -124,7 +124,7 @@ impl<'p> Plan<'p> {
             second,
             fresh.saturating_add(2),
         )?;
-        let last = Place { label, ..at };
+        let last = TaskLabels { label, ..at };
         self.point(Part::Form(right), last)?;
         Ok(())
     }

@@ -11,14 +11,14 @@ pub(crate) struct Made {
     pub(crate) tables: Vec<u32>,
 }
 
-/// The operations of a program that is being made, with the rows and the texts that it has.
+/// The operations of a program that is being made, with the byte sets and the texts that it has.
 #[derive(Drop)]
 struct Draft<'a> {
     ops: Vec<Op>,
     /// For each label the one of an operation that records a failure and goes on there, or 0 if none is
     /// known.
     notes: Vec<u32>,
-    rows: &'a [u8],
+    byte_sets: &'a [u8],
     texts: &'a [Vec<u8>],
 }
 
@@ -142,7 +142,7 @@ impl<'a> Draft<'a> {
     /// Returns the flags of a set.
     fn flags(&self, set: u32) -> &'a [u8] {
         let start = set as usize * 256;
-        match self.rows.get(start..start + 256) {
+        match self.byte_sets.get(start..start + 256) {
             Some(flags) => flags,
             None => &[],
         }
@@ -306,7 +306,7 @@ pub(crate) fn write_tables<'a>(
     alloc: Global,
     ops: Vec<Op>,
     count: u32,
-    rows: &'a [u8],
+    byte_sets: &'a [u8],
     texts: &'a [Vec<u8>],
     demands: &[Demand],
 ) -> Result<Made, AllocError> {
@@ -316,14 +316,14 @@ pub(crate) fn write_tables<'a>(
     let mut draft = Draft {
         ops,
         notes,
-        rows,
+        byte_sets,
         texts,
     };
     draft.write_all(&mut tables, demands)?;
     let Draft {
         ops,
         notes: _,
-        rows: _,
+        byte_sets: _,
         texts: _,
     } = draft;
     Ok(Made { ops, tables })

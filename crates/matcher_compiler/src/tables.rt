@@ -13,23 +13,23 @@ use matcher_code::code::{Code, Op};
 /// How many labels a table has: one for each byte, and the last for the end.
 pub(crate) const TABLE_SIZE: u32 = 257;
 
-/// Returns the flag of a byte in a row.
-fn flag(code: &Code, row: u32, byte: u8) -> u8
-    ensures { result ≡ flag (lists_of code.now) row byte }
+/// Returns the flag of a byte in a byte set.
+fn flag(code: &Code, set: u32, byte: u8) -> u8
+    ensures { result ≡ flag (lists_of code.now) set byte }
 {
-    match code.rows.get(row as usize * 256 + byte as usize) {
+    match code.byte_sets.get(set as usize * 256 + byte as usize) {
         Some(flag) => *flag,
         None => 0,
     }
 }
 
-/// Returns the flag of a first byte in a row, or 0 at the end.
-pub(crate) fn flag_at(code: &Code, row: u32, next_byte: Option<u8>) -> u8
+/// Returns the flag of a first byte in a byte set, or 0 at the end.
+pub(crate) fn flag_at(code: &Code, set: u32, next_byte: Option<u8>) -> u8
     ensures { result ≤ 4 → (bs : List ℕ) → head_of bs ≡ next_byte
-        → char_len (lists_of code.now) row bs ≡ result }
+        → char_len (lists_of code.now) set bs ≡ result }
 {
     match next_byte {
-        Some(byte) => flag(code, row, byte),
+        Some(byte) => flag(code, set, byte),
         None => 0,
     }
 }
@@ -55,14 +55,14 @@ pub(crate) fn label_for(code: &Code, table: u32, next_byte: Option<u8>) -> u32
     }
 }
 
-/// Returns the flags of a row, if the program has it.
-pub(crate) fn flags_of(code: &Code, row: u32) -> Option<&[u8]>
+/// Returns the flags of a byte set, if the program has it.
+pub(crate) fn flags_of(code: &Code, set: u32) -> Option<&[u8]>
     ensures long { IfSome result (λ flags. length flags.now ≡ 256) }
     ensures same { IfSome result (λ flags. (b : ℕ) → b < 256
-        → get_or flags.now b 0 ≡ flag (lists_of code.now) row b) }
+        → get_or flags.now b 0 ≡ flag (lists_of code.now) set b) }
 {
-    let start = row as usize * 256;
-    code.rows.get(start..start + 256)
+    let start = set as usize * 256;
+    code.byte_sets.get(start..start + 256)
 }
 
 /// Returns the first byte of a text.

@@ -9,7 +9,7 @@ pub mod Known
 pub mod Marking
 pub mod Recognized
 pub mod Results
-pub mod Rows
+pub mod RuleNumbers
 pub mod Saturated
 pub mod Sums
 pub mod Traced

@@ -15,7 +15,7 @@ use Rattle.base_language.specs.Pieces.Span.{position_offset, position_text}
 use Rattle.base_language.specs.declared.runtime.places.Position.{Position}
 use Rattle.matcher_code.specs.Lists.{CodeLists}
 use Rattle.matcher_code.specs.declared.code.Op.TheVariants as op
-use Rattle.matcher_code.specs.Steps.{Config, LacksText, StopsAt, Trace, jump, op_at, steps, with_rows, one_place}
+use Rattle.matcher_code.specs.Steps.{Config, LacksText, StopsAt, Trace, jump, op_at, steps, insert_rules, one_place}
 use Rattle.matcher_code.specs.declared.state.Places.{Places}
 use Rattle.matcher_code.specs.Endings.{IsFound}
 use Rattle.matcher_code.specs.Laid.{IsEnd, IsPoint}
@@ -28,7 +28,7 @@ use Rattle.matcher_machine.specs.declared.machine.Machine.{Machine}
 use Rattle.matcher_machine.specs.declared.machine.RunEnd.TheVariants as ended
 use Rattle.matcher_machine.specs.Machines.{EndsAtLast, EndsIn, config}
 use Rattle.matcher_program.specs.declared.form.Program.{Program}
-use Rattle.matcher_program.specs.Programs.{Fits, name_at, names_of, rule_of_row}
+use Rattle.matcher_program.specs.Programs.{Fits, name_at, names_of, grammar_rule}
 use Rattle.matcher_program.specs.declared.answers.Stop.TheVariants as stop
 use Rattle.matcher_program.specs.Answers.{IsStoppedFrom, start_of, state_at, text_size}
 use Rattle.matcher_compiler.specs.Compiled.{IsCodeOf}
@@ -46,12 +46,12 @@ use Rattle.matcher_machine.specs.declared.machine.RunEnd.{RunEnd}
 
 -- the configuration of a run from a position, if others are asked for, with a trace or none
 abbrev pub start_at : ℕ → Places → Option Trace → ℕ → Config
-start_at from asked trace l = record { pc = l; at = from; slots = []; trees = []; stack = []; furthest = 0; asked = asked; names = []; trace = trace }
+start_at from asked trace l = record { pc = l; at = from; frames = []; trees = []; stack = []; furthest = 0; asked = asked; names = []; trace = trace }
 
 -- a machine before its first step
 pub fresh : (code : CodeLists) (text : List ℕ) (m : Machine) (l from : ℕ) → IsFresh m → config code text m l from ≡ start_at from (one_place m.asked) None l
 fresh code text m l from f =
-    let a = f.slots in
+    let a = f.frames in
     let b = f.trees in
     let d = f.pushed in
     let c = f.furthest in
@@ -109,14 +109,14 @@ module _ (p : Program) (exact : Bool) (code : CodeLists) (is : IsCodeOf exact p 
   abbrev HasStopped : Config → Type 0
   HasStopped c = StopsAt (op_at code text c.pc) c
 
-  abbrev rows_at : {classes : Classes} {o : Outcome} → Does (grammar_in p) classes task s o → List ℕ
-  rows_at d = with_rows [] (map (number_in (grammar_in p)) (expected_at asked.names d))
+  abbrev rules_at : {classes : Classes} {o : Outcome} → Does (grammar_in p) classes task s o → List ℕ
+  rules_at d = insert_rules [] (map (number_in (grammar_in p)) (expected_at asked.names d))
 
   entry : IsPoint is.points task (i + 3) 1 2
   entry =
       let x = placed (grammar_in p) n i meant in
-      let l : i < length p.rows.items = omega (arith, x.0, length-map p.rows.items (rule_of_row (names_of p.rows.items))) in
-      let e : name_at (names_of p.rows.items) i ≡ n = named_map (rule_of_row (names_of p.rows.items)) (λ w. (rule_of_row (names_of p.rows.items) w).name) (λ w. refl) p.rows.items i no_rule [] l ∙ x.1 no_rule in
+      let l : i < length p.rules.items = omega (arith, x.0, length-map p.rules.items (grammar_rule (names_of p.rules.items))) in
+      let e : name_at (names_of p.rules.items) i ≡ n = named_map (grammar_rule (names_of p.rules.items)) (λ w. (grammar_rule (names_of p.rules.items) w).name) (λ w. refl) p.rules.items i no_rule [] l ∙ x.1 no_rule in
       subst (λ t. IsPoint is.points (Run NonAtomicMode (Ident t)) (i + 3) 1 2) e (is.entries i l)
 
   up : 0 < 2

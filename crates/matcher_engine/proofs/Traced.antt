@@ -11,7 +11,7 @@ use Rattle.matcher_code.specs.declared.state.OpenCall.{OpenCall}
 use Rattle.matcher_code.specs.declared.state.Places.{Places}
 use Rattle.matcher_code.specs.Paths.{Path}
 use Rattle.matcher_code.specs.Failures.{Failures, failures_at}
-use Rattle.matcher_code.specs.Reached.{calls_of, rows_of, with_attempts, with_paths, with_trace}
+use Rattle.matcher_code.specs.Reached.{calls_of, attempts_by_number, with_attempts, with_paths, with_trace}
 use Rattle.matcher_code.specs.Steps.{Config, Trace, no_trace, steps, with_path}
 use Rattle.matcher_machine.specs.declared.machine.RunEnd.TheVariants as ended
 use Rattle.matcher_machine.specs.Machines.{EndsIn}
@@ -22,7 +22,7 @@ use Rattle.matcher_compiler.specs.Compiled.{IsCodeOf}
 use Rattle.matcher_compiler.specs.Names.{number_in}
 use Rattle.matcher_sets.specs.Forms.{grammar_in}
 use Rattle.matcher_engine.specs.declared.tracer.Tracer.{Tracer}
-use Rattle.matcher_engine.specs.Traces.{asked_of, own_trace, slot_traces, trace_of, traced, traced_config}
+use Rattle.matcher_engine.specs.Traces.{asked_of, own_trace, frame_traces, trace_of, traced, traced_config}
 use Rattle.matcher_engine.specs.FailurePaths.{IsTracedFrom, with_each}
 use Rattle.matcher_engine.specs.Reasons.{HasReason}
 use Rattle.matcher_engine.specs.Runs.{IsFresh}
@@ -37,11 +37,11 @@ each_recorded number [] lists = refl
 each_recorded number (p ∷ ps) lists = each_recorded number ps (with_path lists (calls_of number p))
 
 -- the trace of a run that has ended
-recorded : (number : Text → ℕ) (f : Failures) → with_trace number f (Some no_trace) ≡ Some (record no_trace { paths = with_each number [] f.paths; attempts = rows_of number f.attempts })
+recorded : (number : Text → ℕ) (f : Failures) → with_trace number f (Some no_trace) ≡ Some (record no_trace { paths = with_each number [] f.paths; attempts = attempts_by_number number f.attempts })
 recorded number f =
     let e : max 0 f.attempts.furthest ≡ f.attempts.furthest = omega arith in
     ap (with_attempts number f) (each_recorded number f.paths [])
-    ∙ ap (λ n. Some (record no_trace { paths = with_each number [] f.paths; attempts = record (rows_of number f.attempts) { furthest = n } })) e
+    ∙ ap (λ n. Some (record no_trace { paths = with_each number [] f.paths; attempts = record (attempts_by_number number f.attempts) { furthest = n } })) e
 
 some_inside : {t u : Trace} → Some t ≡ Some u → t ≡ u
 some_inside {t = t} {u = u} e = ap (λ x. go x) e
@@ -60,13 +60,13 @@ module _ (p : Program) (code : CodeLists) (is : IsCodeOf true p code) (n : Text)
   began : first ≡ start_at from asked (Some no_trace) (i + 3)
   began =
       ap (λ l. traced_config code text old l from) k
-      ∙ (ap (traced (slot_traces old) (own_trace old) old.place) (fresh code text old.machine (i + 3) from f)
+      ∙ (ap (traced (frame_traces old) (own_trace old) old.place) (fresh code text old.machine (i + 3) from f)
       ∙ (ap (λ x. start_at from (asked_of old) (Some x) (i + 3)) untold ∙ ap (λ a. start_at from a (Some no_trace) (i + 3)) places))
 
   -- what is recorded where a run has ended
   have : (m pc at : ℕ) → steps code text m first ≡ traced_config code text new pc at → (f : Failures)
       → (steps code text m (start_at from asked (Some no_trace) (i + 3))).trace ≡ with_trace (number_in (grammar_in p)) f (Some no_trace)
-      → trace_of new ≡ record no_trace { paths = with_each (number_in (grammar_in p)) [] f.paths; attempts = rows_of (number_in (grammar_in p)) f.attempts }
+      → trace_of new ≡ record no_trace { paths = with_each (number_in (grammar_in p)) [] f.paths; attempts = attempts_by_number (number_in (grammar_in p)) f.attempts }
   have m pc at q f t =
       some_inside (ap (λ c. c.trace) (sym q ∙ ap (steps code text m) began) ∙ (t ∙ recorded (number_in (grammar_in p)) f))
 

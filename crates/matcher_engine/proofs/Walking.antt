@@ -9,10 +9,10 @@ use Rattle.matcher_code.specs.Reached.{count_of, nodes_of}
 use Rattle.base_language.specs.Language.State.{Classes, State}
 use Rattle.matcher_compiler.specs.Names.{number_in}
 use Rattle.matcher_engine.proofs.Known.{known_text}
-use Rattle.matcher_engine.proofs.Rows.{number_within}
+use Rattle.matcher_engine.proofs.RuleNumbers.{number_within}
 use Rattle.matcher_engine.proofs.TreeNames.{HaveTreeNumbers, trees_have}
-use Rattle.matcher_engine.specs.Preorders.{HasPreorder}
-use Rattle.matcher_engine.specs.declared.matcher.Preorder.{Preorder}
+use Rattle.matcher_engine.specs.ParseTrees.{HasParseTree}
+use Rattle.matcher_engine.specs.declared.matcher.ParseTree.{ParseTree}
 use Rattle.matcher_engine.specs.Walks.{visited_of}
 use Rattle.matcher_engine.specs.declared.walk.VisitedTree.{VisitedTree}
 use Rattle.std.proofs.Math.Seq.{drop-cons, take-length, take-suc}
@@ -62,27 +62,27 @@ module _ (names : List Text) where
   pub at_end : (k : ℕ) (os : List Visited) → Goes (suc k) os → remaining names [] k os ≡ []
   at_end k os h = (none_closed k os h).0
 
-  module _ (row : Text → ℕ) where
+  module _ (rule : Text → ℕ) where
     -- each rule's number is that of its name
     abbrev pub AreNamed : Trees → Type 0
     AreNamed None' = ⊤
-    AreNamed (Tree r i j inner others) = (name_in names (row r) ≡ r) × AreNamed inner × AreNamed others
+    AreNamed (Tree r i j inner others) = (name_in names (rule r) ≡ r) × AreNamed inner × AreNamed others
 
     walk_over : (us : Trees) (k : ℕ) (os : List Visited) (ts : List TreeNode) → AreNamed us → Goes (k + count_of us) os
-        → remaining names (nodes_of row k us ++ ts) k os ≡ visits row k (length os) us ++ remaining names ts (k + count_of us) os
+        → remaining names (nodes_of rule k us ++ ts) k os ≡ visits rule k (length os) us ++ remaining names ts (k + count_of us) os
     walk_over None' k os ts h g = ap (λ n. remaining names ts n os) (omega arith)
     walk_over (Tree r i j inner others) k os ts h g =
         let ci = count_of inner in
         let co = count_of others in
         let m = suc k + ci in
-        let A = nodes_of row (suc k) inner in
-        let B = nodes_of row m others in
-        let t : TreeNode = record { row = row r; start = i; end = j; after = m } in
+        let A = nodes_of rule (suc k) inner in
+        let B = nodes_of rule m others in
+        let t : TreeNode = record { rule = rule r; start = i; end = j; after = m } in
         let v = entered names t k (length os) in
-        let w = visited row k (length os) r i j inner in
+        let w = visited rule k (length os) r i j inner in
         let last = remaining names ts (k + suc (ci + co)) os in
-        let inside = visits row (suc k) (suc (length os)) inner in
-        let behind = visits row m (length os) others in
+        let inside = visits rule (suc k) (suc (length os)) inner in
+        let behind = visits rule m (length os) others in
         let g1 : Goes (suc k) os = goes_less (suc k) (k + suc (ci + co)) os (omega arith) g in
         let g2 : Goes (m + co) os = goes_less (m + co) (k + suc (ci + co)) os (omega arith) g in
         let e0 : v ≡ w = ap (λ n. record { rule = n; node = t; number = k; depth = length os }) h.0 in
@@ -98,10 +98,10 @@ module _ (names : List Text) where
         ∙ ap (λ z. Enters w ∷ z) (sym (append_assoc inside (Leaves w ∷ behind) last))))
 
     -- the walk over trees in preorder is that over the trees
-    pub walk_trees : (us : Trees) → AreNamed us → remaining names (nodes_of row 0 us) 0 [] ≡ visits row 0 0 us
+    pub walk_trees : (us : Trees) → AreNamed us → remaining names (nodes_of rule 0 us) 0 [] ≡ visits rule 0 0 us
     walk_trees us h =
-        let e : nodes_of row 0 us ≡ nodes_of row 0 us ++ [] = simp append-nil in
-        ap (λ ts. remaining names ts 0 []) e ∙ (walk_over us 0 [] [] h tt ∙ append-nil (visits row 0 0 us))
+        let e : nodes_of rule 0 us ≡ nodes_of rule 0 us ++ [] = simp append-nil in
+        ap (λ ts. remaining names ts 0 []) e ∙ (walk_over us 0 [] [] h tt ∙ append-nil (visits rule 0 0 us))
 
 -- the last of a list
 split_last : {X : Type 0} (xs : List X) (x : X) → 0 < length xs → x ≡ get_or xs (length xs - 1) x → xs ≡ take (length xs - 1) xs ++ x ∷ []
@@ -155,7 +155,7 @@ module _ (g : Grammar) (names : List Text) (same : names ≡ map (λ r. r.name) 
   all_texts (Tree r i j inner others) h =
       (ap (λ ns. name_in ns (number_in g r)) same ∙ known_text g r (number_within g r h.0), all_texts inner h.1, all_texts others h.2)
 
-  pub walk_of_names : (n : Text) (s : State) (classes : Classes) (it : Preorder) → (x : HasPreorder g n s classes it)
+  pub walk_of_names : (n : Text) (s : State) (classes : Classes) (it : ParseTree) → (x : HasParseTree g n s classes it)
       → remaining names it.trees.items 0 [] ≡ visits (number_in g) 0 0 x.trees
   walk_of_names n s classes it x =
       ap (λ ts. remaining names ts 0 []) x.nodes

@@ -7,7 +7,7 @@ use Rattle.matcher_code.specs.declared.state.OpenCall.{OpenCall}
 use Rattle.matcher_code.specs.declared.state.Places.{Places}
 use Rattle.matcher_code.specs.Paths.{Path, paths_at}
 use Rattle.matcher_code.specs.Attempts.{attempts_at}
-use Rattle.matcher_code.specs.Reached.{calls_of, rows_of}
+use Rattle.matcher_code.specs.Reached.{calls_of, attempts_by_number}
 use Rattle.matcher_code.specs.Steps.{with_path}
 use Rattle.matcher_program.specs.Answers.{HasAt, IsStoppedFrom}
 use Rattle.matcher_program.specs.Programs.{Fits}
@@ -37,7 +37,8 @@ pub record IsTraced (g : Grammar) (n : Text) (s : State) (classes : Classes) (as
   pub outcome : Outcome
   pub found : HasAt g n s classes outcome
   pub paths : paths_in t.paths.items ≡ with_each (number_in g) [] (paths_at asked.names found)
-  pub attempts : (trace_of t).attempts ≡ rows_of (number_in g) (attempts_at false asked.attempts found)
+  pub attempts : (trace_of t).attempts
+      ≡ attempts_by_number (number_in g) (attempts_at false asked.attempts found)
 
 -- so it is for all fitting classes
 abbrev pub IsTracedFrom : Grammar → List Property → Text → State → Places → Tracer → Type 0

@@ -3,7 +3,7 @@ pub mod Blocks
 pub mod Limits
 pub mod Marks
 pub mod PackratAnswers
-pub mod Preorders
+pub mod ParseTrees
 pub mod Reasons
 pub mod Runs
 pub mod Traces

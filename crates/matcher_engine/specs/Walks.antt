@@ -26,9 +26,9 @@ pub data Visit : Type 0 where
 
 -- the tree of a rule between two positions, which holds these trees
 abbrev pub visited : (Text → ℕ) → (number depth : ℕ) → Text → (start end_ : ℕ) → Trees → Visited
-visited row number depth r i j inner = record {
+visited rule number depth r i j inner = record {
   rule = r;
-  node = record { row = row r; start = i; end = j; after = suc number + count_of inner };
+  node = record { rule = rule r; start = i; end = j; after = suc number + count_of inner };
   number = number;
   depth = depth;
 }
@@ -36,12 +36,12 @@ visited row number depth r i j inner = record {
 -- the walk over trees that so many trees hold, if the first has a number: into each, over those that it
 -- holds, and out of it
 abbrev pub visits : (Text → ℕ) → (number depth : ℕ) → Trees → List Visit
-visits row number depth None' = []
-visits row number depth (Tree r i j inner others) =
-    Enters (visited row number depth r i j inner)
-    ∷ visits row (suc number) (suc depth) inner
-    ++ Leaves (visited row number depth r i j inner)
-    ∷ visits row (suc number + count_of inner) depth others
+visits rule number depth None' = []
+visits rule number depth (Tree r i j inner others) =
+    Enters (visited rule number depth r i j inner)
+    ∷ visits rule (suc number) (suc depth) inner
+    ++ Leaves (visited rule number depth r i j inner)
+    ∷ visits rule (suc number + count_of inner) depth others
 
 -- a visit of the code
 abbrev pub visited_of : VisitedTree → Visited
@@ -67,7 +67,8 @@ name_in names k = get_or names k (codes "EOI")
 
 -- the tree of a number, as a walk comes to it
 abbrev pub entered : List Text → TreeNode → (number depth : ℕ) → Visited
-entered names t number depth = record { rule = name_in names t.row; node = t; number = number; depth = depth }
+entered names t number depth =
+    record { rule = name_in names t.rule; node = t; number = number; depth = depth }
 
 -- the walk over trees of which the first has a number, and out of the open ones
 abbrev pub remaining : List Text → List TreeNode → ℕ → List Visited → List Visit

@@ -25,10 +25,10 @@ use std::alloc::Global;
 pub struct Attempts {
     /// The greatest position, in bytes, of a call that is recorded; 0 if none is.
     pub place: usize,
-    /// The rows of the rules that are expected there, in the order of their calls, as often as they are
+    /// The numbers of the rules that are expected there, in the order of their calls, as often as they are
     /// recorded.
     pub positives: Vec<u32>,
-    /// The rows of the rules that are not expected there, so too.
+    /// The numbers of the rules that are not expected there, so too.
     pub negatives: Vec<u32>,
 }
 

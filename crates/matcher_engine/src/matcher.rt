@@ -24,8 +24,8 @@ use std::alloc::Global;
 
 /// A match by its trees in preorder.
 #[derive(Drop)]
-pub struct Preorder {
-    /// The trees, each before its descendants. The rule of a tree is the one of the number `row`.
+pub struct ParseTree {
+    /// The trees, each before its descendants. `rule` of a tree is the number of its rule.
     pub trees: Vec<TreeNode>,
     /// The position after the match, in bytes.
     pub end: usize,

@@ -14,7 +14,7 @@ ghost use Rattle.matcher_sets.specs.Forms as forms;
 ghost use Rattle.matcher_engine.specs.Limits.{HasOutcomeFrom, IsEnough};
 ghost use Rattle.matcher_engine.specs.PackratAnswers.{IsAnswered, IsRight};
 
-use crate::matcher::{Preorder, entry_of};
+use crate::matcher::{ParseTree, entry_of};
 use base_language::runtime::Position;
 use matcher_code::bytecode::Bytecode;
 use matcher_machine::packrat::run_packrat;
@@ -26,7 +26,7 @@ use std::alloc::{AllocError, Global};
 #[derive(Drop)]
 pub(crate) enum PackratEnd {
     /// The rule matches.
-    Matched(Preorder),
+    Matched(ParseTree),
     /// The rule fails; the furthest position, in bytes, at which a call that counts failed, or 0.
     Failed(usize),
     /// None: the run uses the stack, never ends, or takes more turns than are allowed.
@@ -58,7 +58,7 @@ pub(crate) fn run_with_table(
     let text = whole_text(start);
     let run = run_packrat(alloc, code, text, entry, start.pos(), turns)?;
     match run.end {
-        Recognized::Found(end) => Ok(PackratEnd::Matched(Preorder {
+        Recognized::Found(end) => Ok(PackratEnd::Matched(ParseTree {
             trees: run.trees,
             end,
             furthest: run.furthest,

@@ -6,9 +6,9 @@ use crate::mark::Mark;
 use matcher_code::bytecode::Bytecode;
 use matcher_code::code::Op;
 use matcher_code::state::{Failing, OpenCall, TreeNode};
+use matcher_machine::frame::Frame;
 use matcher_machine::machine::{Machine, Next, RunEnd};
 use matcher_machine::running::op_at;
-use matcher_machine::slot::Slot;
 use std::alloc::{AllocError, Global};
 
 /// The greatest number of paths.
@@ -32,24 +32,24 @@ pub struct Tracer {
     pub place: usize,
     /// The greatest position of an attempt, from that one on.
     pub furthest: usize,
-    /// The rows of the rules that are expected there, as often as they are told.
+    /// The numbers of the rules that are expected there, as often as they are told.
     pub positives: Vec<u32>,
-    /// The rows of those that are not expected there.
+    /// The numbers of those that are not expected there.
     pub negatives: Vec<u32>,
-    /// One for each slot, or none for that of a choice or of a call that gives no token.
+    /// One for each frame, or none for that of a choice or of a call that gives no token.
     pub marks: Vec<Option<Mark>>,
     ghost marked: { HaveMarks calls paths positives negatives marks } by { marks-prop _ marks },
 }
 
-/// Appends a row to attempts. Errors: allocation failed, or there are too many.
-fn push_row(rows: &mut Vec<u32>, row: u32) -> Result<(), AllocError>
-    ensures row { OnOk result (rows.new.items ≡ rows.old.items ++ row ∷ []) }
-    ensures kept { length rows.old.items ≤ length rows.new.items }
+/// Appends a rule to attempts. Errors: allocation failed, or there are too many.
+fn push_rule(rules: &mut Vec<u32>, rule: u32) -> Result<(), AllocError>
+    ensures rule { OnOk result (rules.new.items ≡ rules.old.items ++ rule ∷ []) }
+    ensures kept { length rules.old.items ≤ length rules.new.items }
 {
-    if rows.len() >= ATTEMPTS {
+    if rules.len() >= ATTEMPTS {
         return Err(AllocError);
     }
-    rows.push(row)?;
+    rules.push(rule)?;
     Ok(())
 }
 
@@ -62,7 +62,7 @@ impl Tracer {
     ghost use Rattle.matcher_code.specs.Steps.{add_path, enter, has_path, leave, no_trace, no_tree, op_at, open_call, record_end, restore, trace_ahead, trace_behind};
     ghost use Rattle.matcher_machine.specs.Machines.{EndsIn, config};
     ghost use Rattle.matcher_engine.specs.Marks.{AreMarked, IsWithin, counts_of};
-    ghost use Rattle.matcher_engine.specs.Traces.{TracedFollows, asked_of, first, mark_of, own_trace, paths_in, slot_trace, slot_traces, trace_after, trace_at, trace_of, traced_config, traces_after};
+    ghost use Rattle.matcher_engine.specs.Traces.{TracedFollows, asked_of, first, mark_of, own_trace, paths_in, frame_trace, frame_traces, trace_after, trace_at, trace_of, traced_config, traces_after};
 
     /// Records the calls of a machine from here on, and attempts at a position.
     pub fn new(alloc: Global, machine: Machine, place: usize) -> Tracer
@@ -98,9 +98,9 @@ impl Tracer {
         }
     }
 
-    /// Marks a slot that is pushed by what is recorded. The only error is an allocation failure.
+    /// Marks a frame that is pushed by what is recorded. The only error is an allocation failure.
     fn push_mark(&mut self) -> Result<(), AllocError>
-        ensures traces { OnOk result (slot_traces self.new ≡ own_trace self.old ∷ slot_traces self.old) }
+        ensures traces { OnOk result (frame_traces self.new ≡ own_trace self.old ∷ frame_traces self.old) }
         ensures trace { trace_of self.new ≡ trace_of self.old }
         ensures machine { self.new.machine ≡ self.old.machine }
         ensures place { self.new.place ≡ self.old.place }
@@ -110,9 +110,9 @@ impl Tracer {
         Ok(())
     }
 
-    /// Leaves a slot that is pushed without a mark. The only error is an allocation failure.
+    /// Leaves a frame that is pushed without a mark. The only error is an allocation failure.
     fn push_none(&mut self) -> Result<(), AllocError>
-        ensures traces { OnOk result (slot_traces self.new ≡ None ∷ slot_traces self.old) }
+        ensures traces { OnOk result (frame_traces self.new ≡ None ∷ frame_traces self.old) }
         ensures trace { trace_of self.new ≡ trace_of self.old }
         ensures machine { self.new.machine ≡ self.old.machine }
         ensures place { self.new.place ≡ self.old.place }
@@ -121,9 +121,9 @@ impl Tracer {
         Ok(())
     }
 
-    /// Drops the mark of a slot that is popped.
+    /// Drops the mark of a frame that is popped.
     fn pop_mark(&mut self)
-        ensures traces { slot_traces self.new ≡ drop 1 (slot_traces self.old) }
+        ensures traces { frame_traces self.new ≡ drop 1 (frame_traces self.old) }
         ensures trace { trace_of self.new ≡ trace_of self.old }
         ensures machine { self.new.machine ≡ self.old.machine }
         ensures place { self.new.place ≡ self.old.place }
@@ -131,9 +131,9 @@ impl Tracer {
         let _ = self.marks.pop();
     }
 
-    /// Returns the mark of the last slot, if it has one.
+    /// Returns the mark of the last frame, if it has one.
     fn last_mark(&self) -> Option<Mark>
-        ensures trace { slot_trace (trace_of self.now) result ≡ first (slot_traces self.now) }
+        ensures trace { frame_trace (trace_of self.now) result ≡ first (frame_traces self.now) }
         ensures mark { MatchOption result ⊤ (λ mark. IsWithin mark (counts_of (mark_of self.now))
             × AreMarked (counts_of mark) (reverse self.now.marks.items)) }
     {
@@ -157,15 +157,15 @@ impl Tracer {
 
     /// Expects a rule at a position, within the open calls. Errors: allocation failed, or there are too many
     /// paths.
-    fn expect(&mut self, alloc: Global, row: u32, at: usize) -> Result<(), AllocError>
+    fn expect(&mut self, alloc: Global, rule: u32, at: usize) -> Result<(), AllocError>
         ensures trace { OnOk result
-            (own_trace self.new ≡ add_path (open_call row at ∷ []) (own_trace self.old)) }
-        ensures traces { OnOk result (slot_traces self.new ≡ slot_traces self.old) }
+            (own_trace self.new ≡ add_path (open_call rule at ∷ []) (own_trace self.old)) }
+        ensures traces { OnOk result (frame_traces self.new ≡ frame_traces self.old) }
         ensures machine { self.new.machine ≡ self.old.machine }
         ensures place { self.new.place ≡ self.old.place }
     {
         let mut path = Vec::from_slice(alloc, self.calls.as_slice())?;
-        path.push(OpenCall { row, start: at })?;
+        path.push(OpenCall { rule, start: at })?;
         if self.has_path(path.as_slice()) {
             return Ok(());
         }
@@ -176,21 +176,21 @@ impl Tracer {
         Ok(())
     }
 
-    /// Records the end of a call of a row, which began at a position and has matched or failed, by the mark
+    /// Records the end of a call of a rule, which began at a position and has matched or failed, by the mark
     /// of before it: its rule stands for the attempts within it, unless these are exactly one. Errors:
     /// allocation failed, or there are too many attempts.
     fn record_end(
         &mut self,
         matched: bool,
-        row: u32,
+        rule: u32,
         at: usize,
         before: Mark,
     ) -> Result<(), AllocError>
         requires within { IsWithin before (counts_of (mark_of self.old)) }
         requires marked { AreMarked (counts_of before) (reverse self.old.marks.items) }
-        ensures trace { OnOk result (own_trace self.new ≡ record_end matched self.old.place row at
+        ensures trace { OnOk result (own_trace self.new ≡ record_end matched self.old.place rule at
             (Some (trace_at (trace_of self.old) before)) (own_trace self.old)) }
-        ensures traces { OnOk result (slot_traces self.new ≡ slot_traces self.old) }
+        ensures traces { OnOk result (frame_traces self.new ≡ frame_traces self.old) }
         ensures machine { self.new.machine ≡ self.old.machine }
         ensures place { self.new.place ≡ self.old.place }
     {
@@ -205,58 +205,58 @@ impl Tracer {
         }
         self.positives.truncate(before.positives);
         self.negatives.truncate(before.negatives);
-        self.push_attempt(row)?;
+        self.push_attempt(rule)?;
         Ok(())
     }
 
-    /// Appends the row of a rule to those that are expected, or below a `!` to those that are not. Errors:
+    /// Appends the number of a rule to those that are expected, or below a `!` to those that are not. Errors:
     /// allocation failed, or there are too many.
-    fn push_attempt(&mut self, row: u32) -> Result<(), AllocError>
+    fn push_attempt(&mut self, rule: u32) -> Result<(), AllocError>
         ensures trace { OnOk result (trace_of self.new ≡ record (trace_of self.old) {
-          attempts = with_rule self.old.below row (trace_of self.old).attempts;
+          attempts = with_rule self.old.below rule (trace_of self.old).attempts;
         }) }
-        ensures traces { OnOk result (slot_traces self.new ≡ slot_traces self.old) }
+        ensures traces { OnOk result (frame_traces self.new ≡ frame_traces self.old) }
         ensures machine { self.new.machine ≡ self.old.machine }
         ensures place { self.new.place ≡ self.old.place }
     {
         if self.below {
-            push_row(&mut self.negatives, row)?;
+            push_rule(&mut self.negatives, rule)?;
         } else {
-            push_row(&mut self.positives, row)?;
+            push_rule(&mut self.positives, rule)?;
         }
         Ok(())
     }
 
-    /// Records the end of the call of the last slot, if that has a mark. Errors are those of `record_end`.
-    fn record_last_end(&mut self, matched: bool, row: u32, at: usize) -> Result<(), AllocError>
-        ensures trace { OnOk result (own_trace self.new ≡ record_end matched self.old.place row at
-            (first (slot_traces self.old)) (own_trace self.old)) }
-        ensures traces { OnOk result (slot_traces self.new ≡ slot_traces self.old) }
+    /// Records the end of the call of the last frame, if that has a mark. Errors are those of `record_end`.
+    fn record_last_end(&mut self, matched: bool, rule: u32, at: usize) -> Result<(), AllocError>
+        ensures trace { OnOk result (own_trace self.new ≡ record_end matched self.old.place rule at
+            (first (frame_traces self.old)) (own_trace self.old)) }
+        ensures traces { OnOk result (frame_traces self.new ≡ frame_traces self.old) }
         ensures machine { self.new.machine ≡ self.old.machine }
         ensures place { self.new.place ≡ self.old.place }
     {
         match self.last_mark() {
-            Some(mark) => self.record_end(matched, row, at, mark),
+            Some(mark) => self.record_end(matched, rule, at, mark),
             None => Ok(()),
         }
     }
 
     /// Records the end of a call that has none within it. Errors are those of `record_end`.
-    fn record_leaf(&mut self, matched: bool, row: u32, at: usize) -> Result<(), AllocError>
-        ensures trace { OnOk result (own_trace self.new ≡ record_end matched self.old.place row at
+    fn record_leaf(&mut self, matched: bool, rule: u32, at: usize) -> Result<(), AllocError>
+        ensures trace { OnOk result (own_trace self.new ≡ record_end matched self.old.place rule at
             (own_trace self.old) (own_trace self.old)) }
-        ensures traces { OnOk result (slot_traces self.new ≡ slot_traces self.old) }
+        ensures traces { OnOk result (frame_traces self.new ≡ frame_traces self.old) }
         ensures machine { self.new.machine ≡ self.old.machine }
         ensures place { self.new.place ≡ self.old.place }
     {
         let mark = self.mark();
-        self.record_end(matched, row, at, mark)
+        self.record_end(matched, rule, at, mark)
     }
 
-    /// Leaves the calls that were opened since the last slot was pushed, if it has a mark.
+    /// Leaves the calls that were opened since the last frame was pushed, if it has a mark.
     fn leave(&mut self)
-        ensures trace { own_trace self.new ≡ leave (first (slot_traces self.old)) (own_trace self.old) }
-        ensures traces { slot_traces self.new ≡ slot_traces self.old }
+        ensures trace { own_trace self.new ≡ leave (first (frame_traces self.old)) (own_trace self.old) }
+        ensures traces { frame_traces self.new ≡ frame_traces self.old }
         ensures machine { self.new.machine ≡ self.old.machine }
         ensures place { self.new.place ≡ self.old.place }
     {
@@ -265,10 +265,10 @@ impl Tracer {
         }
     }
 
-    /// Restores all but the attempts, as the mark of the last slot has it, if it has one.
+    /// Restores all but the attempts, as the mark of the last frame has it, if it has one.
     fn restore(&mut self)
-        ensures trace { own_trace self.new ≡ restore (first (slot_traces self.old)) (own_trace self.old) }
-        ensures traces { slot_traces self.new ≡ slot_traces self.old }
+        ensures trace { own_trace self.new ≡ restore (first (frame_traces self.old)) (own_trace self.old) }
+        ensures traces { frame_traces self.new ≡ frame_traces self.old }
         ensures machine { self.new.machine ≡ self.old.machine }
         ensures place { self.new.place ≡ self.old.place }
     {
@@ -280,24 +280,25 @@ impl Tracer {
     }
 
     /// Opens a call, if it counts. The only error is an allocation failure.
-    fn enter(&mut self, counts: bool, row: u32, at: usize) -> Result<(), AllocError>
-        ensures trace { OnOk result (own_trace self.new ≡ enter counts row at (own_trace self.old)) }
-        ensures traces { OnOk result (slot_traces self.new ≡ slot_traces self.old) }
+    fn enter(&mut self, counts: bool, rule: u32, at: usize) -> Result<(), AllocError>
+        ensures trace { OnOk result (own_trace self.new ≡ enter counts rule at (own_trace self.old)) }
+        ensures traces { OnOk result (frame_traces self.new ≡ frame_traces self.old) }
         ensures machine { self.new.machine ≡ self.old.machine }
         ensures place { self.new.place ≡ self.old.place }
     {
         if counts {
-            self.calls.push(OpenCall { row, start: at })?;
+            self.calls.push(OpenCall { rule, start: at })?;
         }
         Ok(())
     }
 
-    /// Returns the last slot of the machine.
-    fn last_slot(&self) -> Option<Slot>
-        ensures { MatchOption result (reverse self.now.machine.slots.items ≡ [])
-            (λ s. reverse self.now.machine.slots.items ≡ s ∷ drop 1 (reverse self.now.machine.slots.items)) }
+    /// Returns the last frame of the machine.
+    fn last_frame(&self) -> Option<Frame>
+        ensures { MatchOption result (reverse self.now.machine.frames.items ≡ [])
+            (λ s. reverse self.now.machine.frames.items
+            ≡ s ∷ drop 1 (reverse self.now.machine.frames.items)) }
     {
-        self.machine.slots.last().copied()
+        self.machine.frames.last().copied()
     }
 
     /// Returns the tree of a number; one of nothing if there is none.
@@ -307,7 +308,7 @@ impl Tracer {
         match self.machine.trees.get(number) {
             Some(tree) => *tree,
             None => TreeNode {
-                row: 0,
+                rule: 0,
                 start: 0,
                 end: 0,
                 after: 0,
@@ -315,27 +316,27 @@ impl Tracer {
         }
     }
 
-    /// Records the failure of the part of a slot, which is the last one. Errors: allocation failed, or there
+    /// Records the failure of the part of a frame, which is the last one. Errors: allocation failed, or there
     /// are too many paths or attempts.
-    fn fail(&mut self, alloc: Global, slot: Slot) -> Result<(), AllocError>
-        ensures trace { OnOk result (own_trace self.new ≡ trace_behind slot.failing (asked_of self.old)
-            (get_or self.old.machine.trees.items slot.trees no_tree).row slot.at
-            (first (slot_traces self.old)) (own_trace self.old)) }
-        ensures traces { OnOk result (slot_traces self.new ≡ slot_traces self.old) }
+    fn fail(&mut self, alloc: Global, frame: Frame) -> Result<(), AllocError>
+        ensures trace { OnOk result (own_trace self.new ≡ trace_behind frame.failing (asked_of self.old)
+            (get_or self.old.machine.trees.items frame.trees no_tree).rule frame.at
+            (first (frame_traces self.old)) (own_trace self.old)) }
+        ensures traces { OnOk result (frame_traces self.new ≡ frame_traces self.old) }
         ensures machine { self.new.machine ≡ self.old.machine }
         ensures place { self.new.place ≡ self.old.place }
     {
-        let row = self.tree_at(slot.trees).row;
-        match slot.failing {
-            Failing::Plain => self.record_last_end(false, row, slot.at),
+        let rule = self.tree_at(frame.trees).rule;
+        match frame.failing {
+            Failing::Plain => self.record_last_end(false, rule, frame.at),
             Failing::Counted => {
-                if slot.at == self.machine.asked {
+                if frame.at == self.machine.asked {
                     self.restore();
-                    self.expect(alloc, row, slot.at)?;
-                    self.record_last_end(false, row, slot.at)
+                    self.expect(alloc, rule, frame.at)?;
+                    self.record_last_end(false, rule, frame.at)
                 } else {
                     self.leave();
-                    self.record_last_end(false, row, slot.at)
+                    self.record_last_end(false, rule, frame.at)
                 }
             }
             Failing::Negated => {
@@ -345,52 +346,52 @@ impl Tracer {
         }
     }
 
-    /// Records a failure, which pops the last slot. Errors are those of `fail`.
+    /// Records a failure, which pops the last frame. Errors are those of `fail`.
     fn pop_failure(&mut self, alloc: Global) -> Result<(), AllocError>
         ensures trace { OnOk result ((code : CodeLists) (text : List ℕ) (pc at : ℕ)
             → own_trace self.new ≡ trace_after op.Fail self.old.place
-            (config code text self.old.machine pc at) (first (slot_traces self.old)) (own_trace self.old)) }
-        ensures traces { OnOk result (slot_traces self.new ≡ drop 1 (slot_traces self.old)) }
+            (config code text self.old.machine pc at) (first (frame_traces self.old)) (own_trace self.old)) }
+        ensures traces { OnOk result (frame_traces self.new ≡ drop 1 (frame_traces self.old)) }
         ensures machine { self.new.machine ≡ self.old.machine }
         ensures place { self.new.place ≡ self.old.place }
     {
-        if let Some(slot) = self.last_slot() {
-            self.fail(alloc, slot)?;
+        if let Some(frame) = self.last_frame() {
+            self.fail(alloc, frame)?;
         }
         self.pop_mark();
         Ok(())
     }
 
-    /// Records the return of a call, which pops its slot. Errors: allocation failed, or there are too many
+    /// Records the return of a call, which pops its frame. Errors: allocation failed, or there are too many
     /// attempts.
     fn pop_return(&mut self) -> Result<(), AllocError>
         ensures trace { OnOk result ((code : CodeLists) (text : List ℕ) (pc at : ℕ)
             → own_trace self.new ≡ trace_after op.Return self.old.place
-            (config code text self.old.machine pc at) (first (slot_traces self.old)) (own_trace self.old)) }
-        ensures traces { OnOk result (slot_traces self.new ≡ drop 1 (slot_traces self.old)) }
+            (config code text self.old.machine pc at) (first (frame_traces self.old)) (own_trace self.old)) }
+        ensures traces { OnOk result (frame_traces self.new ≡ drop 1 (frame_traces self.old)) }
         ensures machine { self.new.machine ≡ self.old.machine }
         ensures place { self.new.place ≡ self.old.place }
     {
-        if let Some(slot) = self.last_slot() {
-            let row = self.tree_at(slot.trees).row;
+        if let Some(frame) = self.last_frame() {
+            let rule = self.tree_at(frame.trees).rule;
             self.leave();
-            self.record_last_end(true, row, slot.at)?;
+            self.record_last_end(true, rule, frame.at)?;
         }
         self.pop_mark();
         Ok(())
     }
 
-    /// Records the end of a lookahead that has found its part, which pops its slot.
+    /// Records the end of a lookahead that has found its part, which pops its frame.
     fn pop_lookahead(&mut self)
         ensures trace { (code : CodeLists) (text : List ℕ) (pc at next : ℕ)
             → own_trace self.new ≡ trace_after (op.Ahead next) self.old.place
-            (config code text self.old.machine pc at) (first (slot_traces self.old)) (own_trace self.old) }
-        ensures traces { slot_traces self.new ≡ drop 1 (slot_traces self.old) }
+            (config code text self.old.machine pc at) (first (frame_traces self.old)) (own_trace self.old) }
+        ensures traces { frame_traces self.new ≡ drop 1 (frame_traces self.old) }
         ensures machine { self.new.machine ≡ self.old.machine }
         ensures place { self.new.place ≡ self.old.place }
     {
-        if let Some(slot) = self.last_slot() {
-            match slot.failing {
+        if let Some(frame) = self.last_frame() {
+            match frame.failing {
                 Failing::Plain | Failing::Counted => {}
                 Failing::Negated => self.restore(),
             }
@@ -402,17 +403,17 @@ impl Tracer {
     /// attempts.
     fn record(&mut self, alloc: Global, op: Op, at: usize) -> Result<(), AllocError>
         ensures traces { OnOk result
-            (slot_traces self.new ≡ traces_after op (own_trace self.old) (slot_traces self.old)) }
+            (frame_traces self.new ≡ traces_after op (own_trace self.old) (frame_traces self.old)) }
         ensures trace { OnOk result ((code : CodeLists) (text : List ℕ) (pc : ℕ)
             → own_trace self.new ≡ trace_after op self.old.place
-            (config code text self.old.machine pc at) (first (slot_traces self.old)) (own_trace self.old)) }
+            (config code text self.old.machine pc at) (first (frame_traces self.old)) (own_trace self.old)) }
         ensures machine { self.new.machine ≡ self.old.machine }
         ensures place { self.new.place ≡ self.old.place }
     {
         match op {
-            Op::Call { row, counts, .. } => {
+            Op::Call { rule, counts, .. } => {
                 self.push_mark()?;
-                self.enter(counts, row, at)
+                self.enter(counts, rule, at)
             }
             Op::Sub { .. } | Op::Try { .. } => self.push_none(),
             Op::Not { .. } => {
@@ -430,14 +431,14 @@ impl Tracer {
                 self.pop_mark();
                 Ok(())
             }
-            Op::Miss { row, .. } => {
-                self.record_leaf(false, row, at)?;
+            Op::Miss { rule, .. } => {
+                self.record_leaf(false, rule, at)?;
                 if at == self.machine.asked {
-                    self.expect(alloc, row, at)?;
+                    self.expect(alloc, rule, at)?;
                 }
                 Ok(())
             }
-            Op::Leaf { row, .. } => self.record_leaf(true, row, at),
+            Op::Leaf { rule, .. } => self.record_leaf(true, rule, at),
             _ => Ok(()),
         }
     }

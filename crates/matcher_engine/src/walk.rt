@@ -4,11 +4,11 @@ ghost use Rattle.base_language.specs.Language.Expression.{Grammar};
 ghost use Rattle.base_language.specs.Language.State.{Classes, State};
 ghost use Rattle.base_language.specs.Language.Text.{Text};
 ghost use Rattle.matcher_compiler.specs.Names.{number_in};
-ghost use Rattle.matcher_engine.specs.Preorders.{HasPreorder};
+ghost use Rattle.matcher_engine.specs.ParseTrees.{HasParseTree};
 ghost use Rattle.matcher_program.specs.ExpectedNames.{name_texts};
 ghost use Rattle.matcher_engine.specs.Walks.{AreNamesOf, name_in, visit_of, visits, visits_left};
 
-use crate::matcher::Preorder;
+use crate::matcher::ParseTree;
 use front_names::Builtin;
 use matcher_code::state::TreeNode;
 use std::alloc::{AllocError, Global};
@@ -45,10 +45,10 @@ pub struct TreeWalk<'m, 't> {
 
 /// Returns the name of a number among names, or `EOI` for a number that is none's.
 #[inline(always)]
-pub fn text_name<'a>(names: &'a [&'a str], row: u32) -> &'a str
-    ensures { chars result.now ≡ name_in (name_texts names.entry.now) row }
+pub fn text_name<'a>(names: &'a [&'a str], rule: u32) -> &'a str
+    ensures { chars result.now ≡ name_in (name_texts names.entry.now) rule }
 {
-    match names.get(row as usize) {
+    match names.get(rule as usize) {
         Some(name) => name,
         None => Builtin::Eoi.name(),
     }
@@ -58,10 +58,10 @@ pub fn text_name<'a>(names: &'a [&'a str], row: u32) -> &'a str
 pub fn walk_names<'m, 't>(
     alloc: Global,
     names: &'m [&'m str],
-    found: &'t Preorder,
+    found: &'t ParseTree,
 ) -> TreeWalk<'m, 't>
     ensures { (g : Grammar) → AreNamesOf g names.entry.now → (n : Text) (s : State) (classes : Classes)
-        → (x : HasPreorder g n s classes found.entry.now)
+        → (x : HasParseTree g n s classes found.entry.now)
         → visits_left result ≡ visits (number_in g) 0 0 x.trees }
 {
     TreeWalk {
@@ -94,7 +94,7 @@ impl<'m> TreeWalk<'m, '_> {
             return Ok(None);
         };
         let tree = VisitedTree {
-            rule: text_name(self.names, node.row),
+            rule: text_name(self.names, node.rule),
             node: *node,
             number: self.number,
             depth: self.pending.len(),

@@ -2,7 +2,7 @@ pub mod Stopping
 pub mod Naming
 pub mod Stacking
 pub mod Following
-pub mod Framing
+pub mod Contextual
 pub mod Recalling
 pub mod Outlining
 pub mod Circling

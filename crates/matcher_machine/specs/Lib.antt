@@ -1,7 +1,7 @@
 pub mod Bare
 pub mod Events
 pub mod Expansions
-pub mod Frames
+pub mod Contexts
 pub mod Kinds
 pub mod Links
 pub mod Logs

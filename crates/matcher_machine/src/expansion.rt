@@ -44,17 +44,17 @@ impl Expander {
         ensures waiting { self.new.waiting ≡ self.old.waiting }
     {
         match event {
-            Event::Open(row, at) => {
+            Event::Open(rule, at) => {
                 self.unended.push(self.machine.trees.len())?;
-                self.machine.open(row, at as usize)
+                self.machine.open(rule, at as usize)
             }
             Event::Close(at) => match self.unended.pop() {
                 Some(number) => self.machine.close(number, at as usize),
                 None => Ok(()),
             },
-            Event::Leaf(row, at) => {
+            Event::Leaf(rule, at) => {
                 let number = self.machine.trees.len();
-                self.machine.open(row, at as usize)?;
+                self.machine.open(rule, at as usize)?;
                 self.machine.close(number, at as usize)
             }
             Event::Known(_, _) => Ok(()),

@@ -1,6 +1,6 @@
-//! Code whose operations pop the slots that they are meant for.
+//! Code whose operations pop the frames that they are meant for.
 //!
-//! `Return` is meant for the slot of a call that gives a tree, `Back` for that of a call without one, and
+//! `Return` is meant for the frame of a call that gives a tree, `Back` for that of a call without one, and
 //! `Commit` for that of a choice. Kinds of labels show that code is so: a search finds them, and then each
 //! operation is checked against them. Of the search nothing is proved.
 ghost use Rattle.std.specs.Prelude.{◌≡◌, ◌+◌, ◌<◌, IfOk, get_or, true};
@@ -31,11 +31,11 @@ pub(crate) enum Scope {
 pub(crate) enum Kind {
     /// Anywhere: what is run from there only fails or ends.
     Anywhere,
-    /// In a part, below this number of slots of choices and lookaheads.
+    /// In a part, below this number of frames of choices and lookaheads.
     Within(Scope, u32),
 }
 
-/// Returns whether each operation of code is known to pop a slot that it is meant for. The time is linear in
+/// Returns whether each operation of code is known to pop a frame that it is meant for. The time is linear in
 /// the operations and tables. Errors: allocation failed.
 pub fn is_framed(alloc: Global, code: &Bytecode<'_>) -> Result<bool, AllocError>
     ensures { IfOk result (λ framed. framed ≡ true → IsFramed (lists_in code.now)) }
@@ -127,7 +127,7 @@ fn may_run_both(kinds: &[Kind], kind: Kind, next: u32, fail: u32) -> bool
     }
 }
 
-/// Returns whether a label may be run below one slot of a choice more than one of a kind.
+/// Returns whether a label may be run below one frame of a choice more than one of a kind.
 fn may_run_deeper(kinds: &[Kind], kind: Kind, label: u32) -> bool
     ensures { (code : CodeLists) → result ≡ true → Deeper code kinds.now kind label }
 {
@@ -140,7 +140,7 @@ fn may_run_deeper(kinds: &[Kind], kind: Kind, label: u32) -> bool
     }
 }
 
-/// Returns whether a label may be run below one slot of a choice less than one of a kind.
+/// Returns whether a label may be run below one frame of a choice less than one of a kind.
 fn may_run_higher(kinds: &[Kind], kind: Kind, label: u32) -> bool
     ensures { (code : CodeLists) → result ≡ true → Higher code kinds.now kind label }
 {
@@ -175,7 +175,7 @@ fn may_run_table(code: &Bytecode<'_>, kinds: &[Kind], kind: Kind, table: u32) ->
     true
 }
 
-/// Returns whether an operation leads to labels that may be run behind one of a kind, and pops the slot of
+/// Returns whether an operation leads to labels that may be run behind one of a kind, and pops the frame of
 /// that kind.
 fn has_kind(code: &Bytecode<'_>, kinds: &[Kind], op: Op, kind: Kind) -> bool
     ensures { result ≡ true → IsFramedOp (lists_in code.now) kinds.now op kind }
@@ -215,7 +215,7 @@ fn has_kind(code: &Bytecode<'_>, kinds: &[Kind], op: Op, kind: Kind) -> bool
         | Op::Miss { next, .. }
         | Op::Leaf { next, .. }
         | Op::PushText { next, .. } => may_run(kinds, kind, next),
-        Op::Gap { next, slow, .. } => may_run_both(kinds, kind, next, slow),
+        Op::Trivia { next, slow, .. } => may_run_both(kinds, kind, next, slow),
         Op::One { next, fail, .. }
         | Op::IsOne { next, fail, .. }
         | Op::Text { next, fail, .. }
@@ -250,7 +250,7 @@ fn only_fails(code: &Bytecode<'_>, label: u32) -> bool {
 }
 
 /// Labels whose kinds follow from each other: a forest of disjoint sets. In a set each label is deeper than
-/// its parent by a number of slots, modulo 2^32.
+/// its parent by a number of frames, modulo 2^32.
 #[derive(Drop)]
 struct LabelSets {
     parents: Vec<u32>,
@@ -260,7 +260,8 @@ struct LabelSets {
     kinds: Vec<Option<Kind>>,
 }
 
-/// The depth of a root whose kind is not known. Code that no run reaches may begin below any number of slots.
+/// The depth of a root whose kind is not known. Code that no run reaches may begin below any number of
+/// frames.
 const SOME_DEPTH: u32 = 0x8000_0000;
 
 /// Returns a kind for each label. Labels of one set have kinds that differ by their depths alone. Calls and
@@ -381,7 +382,7 @@ impl LabelSets {
             | Op::Miss { next, .. }
             | Op::Leaf { next, .. }
             | Op::PushText { next, .. } => self.join(code, label, next, 0),
-            Op::Gap { next, slow, .. } => {
+            Op::Trivia { next, slow, .. } => {
                 self.join(code, label, next, 0);
                 self.join(code, label, slow, 0);
             }
@@ -407,7 +408,7 @@ impl LabelSets {
     }
 
     /// Gives the set of a label its kinds, if it has none: those with which the label is in a scope, below no
-    /// slot of a choice.
+    /// frame of a choice.
     fn place(&mut self, code: &Bytecode<'_>, label: u32, scope: Scope) {
         if only_fails(code, label) {
             return;

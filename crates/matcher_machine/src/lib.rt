@@ -4,6 +4,7 @@
 mod comments;
 mod events;
 mod expansion;
+pub mod frame;
 mod fused_operations;
 mod fused_running;
 pub mod kinds;
@@ -16,7 +17,6 @@ pub mod packrat;
 pub mod recognizing;
 mod remembering;
 pub mod running;
-pub mod slot;
 pub mod stack;
 mod stack_operations;
 mod texts;

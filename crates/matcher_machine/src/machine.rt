@@ -2,7 +2,7 @@
 ghost use Rattle.std.specs.Prelude.{◌≤◌, length, reverse};
 ghost use Rattle.matcher_machine.specs.Links.{AreHeld, AreHeld-prop, AreNamed, AreNamed-prop};
 
-use crate::slot::Slot;
+use crate::frame::Frame;
 use crate::stack::TextStack;
 use matcher_code::state::TreeNode;
 use std::alloc::Global;
@@ -11,7 +11,7 @@ use std::alloc::Global;
 #[derive(Drop)]
 pub struct Machine {
     /// The continuation frames, the last one at the end.
-    pub slots: Vec<Slot>,
+    pub frames: Vec<Frame>,
     /// The trees so far in preorder.
     pub trees: Vec<TreeNode>,
     pub stack: TextStack,
@@ -19,10 +19,10 @@ pub struct Machine {
     pub furthest: usize,
     /// The position, in bytes, at which names are asked for.
     pub asked: usize,
-    /// The rows of the rules that are expected there.
+    /// The numbers of the rules that are expected there.
     pub names: Vec<u32>,
-    ghost held: { AreHeld (length stack.pushed.items) (reverse slots.items) } by { AreHeld-prop _ _ },
-    ghost named: { AreNamed (length names.items) (reverse slots.items) } by { AreNamed-prop _ _ },
+    ghost held: { AreHeld (length stack.pushed.items) (reverse frames.items) } by { AreHeld-prop _ _ },
+    ghost named: { AreNamed (length names.items) (reverse frames.items) } by { AreNamed-prop _ _ },
     ghost few: { length names.items ≤ 65535 },
 }
 
@@ -35,7 +35,7 @@ pub enum Next {
     Found,
     /// The run has failed.
     Lost,
-    /// The operation needs a slot or a text on the stack, and there is none.
+    /// The operation needs a frame or a text on the stack, and there is none.
     Stuck,
 }
 
@@ -46,7 +46,7 @@ pub enum RunEnd {
     Found(usize),
     /// No match.
     Failed,
-    /// An operation needed a slot or a text on the stack, and there was none.
+    /// An operation needed a frame or a text on the stack, and there was none.
     Stuck,
     /// The run takes more steps than were allowed.
     OutOfSteps,
@@ -56,7 +56,7 @@ pub enum RunEnd {
 #[derive(Clone, Copy, Debug)]
 pub(crate) struct CallTarget {
     pub to: u32,
-    pub row: u32,
+    pub rule: u32,
     pub next: u32,
     pub fail: u32,
     pub counts: bool,
@@ -76,7 +76,7 @@ impl Machine {
 
     /// Returns a machine before its first step. Names are asked for at no position of a text.
     pub fn new(alloc: Global) -> Machine
-        ensures slots { result.slots.items ≡ [] }
+        ensures frames { result.frames.items ≡ [] }
         ensures trees { result.trees.items ≡ [] }
         ensures pushed { result.stack.pushed.items ≡ [] }
         ensures top { result.stack.top ≡ 0 }
@@ -85,7 +85,7 @@ impl Machine {
         ensures names { result.names.items ≡ [] }
     {
         Machine {
-            slots: Vec::new(alloc),
+            frames: Vec::new(alloc),
             trees: Vec::new(alloc),
             stack: TextStack::new(alloc),
             furthest: 0,

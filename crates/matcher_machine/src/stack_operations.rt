@@ -19,16 +19,16 @@ pub(crate) struct Slice {
 }
 
 impl Machine {
-    /// Pops a slot, and pushes the text from its position to here on the stack.
+    /// Pops a frame, and pushes the text from its position to here on the stack.
     #[inline(always)]
     pub(crate) fn push_input(&mut self, next: u32, at: usize) -> Result<Next, AllocError>
         ensures { IfOk result (λ answer. (code : CodeLists) (text : List ℕ) (pc : ℕ)
             → Follows code text (op.Push next) (config code text self.old pc at) self.new answer) }
     {
         match self.pop() {
-            Some(slot) => {
+            Some(frame) => {
                 self.stack.push(StackText::Input {
-                    from: slot.at,
+                    from: frame.at,
                     to: at,
                 })?;
                 Ok(Next::At(next, at))

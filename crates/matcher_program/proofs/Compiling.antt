@@ -24,10 +24,10 @@ use Rattle.matcher_program.specs.declared.form.Property.{Property}
 use Rattle.matcher_program.specs.declared.form.Class.{Class}
 use Rattle.front_names.specs.CharSets.{set_name}
 use Rattle.front_names.specs.declared.char_set.CharSet.{CharSet}
-use Rattle.matcher_program.specs.declared.form.Row.{Row}
+use Rattle.matcher_program.specs.declared.form.ProgramRule.{ProgramRule}
 use Rattle.matcher_program.specs.declared.form.Form.TheVariants as form
 use Rattle.matcher_program.specs.Compiled.{Compiles, names_in}
-use Rattle.matcher_program.specs.Programs.{IsNumberOf, IsPropertyOf, IsRow, IsRuleOf, IsSkippedRule, IsSound, class_name, grammar_of, name_at, names_of, rule_of_row}
+use Rattle.matcher_program.specs.Programs.{IsNumberOf, IsPropertyOf, IsProgramRule, IsRuleOf, IsSkippedRule, IsSound, class_name, grammar_of, name_at, names_of, grammar_rule}
 
 -- the last rule of a name, with none of that name behind it
 pub last_rule : (g : Grammar) (i : ℕ) (d : Rule) (n : Text) → i < length g → rule_of (drop (suc i) g) n ≡ None → bytes_eq (get_or g i d).name n ≡ true → rule_of g n ≡ Some (get_or g i d)
@@ -151,29 +151,29 @@ property_compiles ps name n i k h e g u = record {
   bound = subst (λ m. IsPropertyOf g ps m i) (sym k) (record { number = h; unnamed = u; is = is_property_of n e });
 }
 
--- rows that say what the rules say
-rows_named : (N : List Text) (g : Grammar) (rs : List Row) → map (rule_of_row N) rs ≡ g → names_of rs ≡ names_in g
-rows_named N g [] e = ap names_in e
-rows_named N g (r ∷ rs) e = ap (λ xs. text_of r.name ∷ xs) (rows_named N (map (rule_of_row N) rs) rs refl) ∙ ap names_in e
+-- program rules that say what the rules say
+numbers_named : (N : List Text) (g : Grammar) (rs : List ProgramRule) → map (grammar_rule N) rs ≡ g → names_of rs ≡ names_in g
+numbers_named N g [] e = ap names_in e
+numbers_named N g (r ∷ rs) e = ap (λ xs. text_of r.name ∷ xs) (numbers_named N (map (grammar_rule N) rs) rs refl) ∙ ap names_in e
 
-pub rows_mean : (g : Grammar) (rs : List Row) → map (rule_of_row (names_in g)) rs ≡ g → grammar_of rs ≡ g
-rows_mean g rs e = ap (λ N. map (rule_of_row N) rs) (rows_named (names_in g) g rs e) ∙ e
+pub rules_mean : (g : Grammar) (rs : List ProgramRule) → map (grammar_rule (names_in g)) rs ≡ g → grammar_of rs ≡ g
+rules_mean g rs e = ap (λ N. map (grammar_rule N) rs) (numbers_named (names_in g) g rs e) ∙ e
 
-pub program_sound : (g : Grammar) (ps : List Property) (rs : List Row) (white blank : Option ℕ) → map (rule_of_row (names_in g)) rs ≡ g → ((i : ℕ) (d : Row) → i < length rs → IsRow g (names_in g) ps (get_or rs i d)) → IsSkippedRule g whitespace white → IsSkippedRule g comment blank → IsSound rs ps white blank
-program_sound g ps rs white blank e rows w c =
-    let m = rows_mean g rs e in
-    let n = rows_named (names_in g) g rs e in
+pub program_sound : (g : Grammar) (ps : List Property) (rs : List ProgramRule) (white blank : Option ℕ) → map (grammar_rule (names_in g)) rs ≡ g → ((i : ℕ) (d : ProgramRule) → i < length rs → IsProgramRule g (names_in g) ps (get_or rs i d)) → IsSkippedRule g whitespace white → IsSkippedRule g comment blank → IsSound rs ps white blank
+program_sound g ps rs white blank e program_rules w c =
+    let m = rules_mean g rs e in
+    let n = numbers_named (names_in g) g rs e in
     record {
-      rows = λ i d l. subst (λ h. IsRow h (names_of rs) ps (get_or rs i d)) (sym m) (subst (λ N. IsRow g N ps (get_or rs i d)) (sym n) (rows i d l));
+      program_rules = λ i d l. subst (λ h. IsProgramRule h (names_of rs) ps (get_or rs i d)) (sym m) (subst (λ N. IsProgramRule g N ps (get_or rs i d)) (sym n) (program_rules i d l));
       whitespace_is = subst (λ h. IsSkippedRule h whitespace white) (sym m) w;
       comment_is = subst (λ h. IsSkippedRule h comment blank) (sym m) c;
     }
 
--- one row more
-pub more_rows : (g : Grammar) (ps : List Property) (rs more : List Row) (row : Row) → more ≡ rs ++ row ∷ [] → IsRow g (names_in g) ps row → ((i : ℕ) (d : Row) → i < length rs → IsRow g (names_in g) ps (get_or rs i d)) → (i : ℕ) (d : Row) → i < length more → IsRow g (names_in g) ps (get_or more i d)
-more_rows g ps rs more row e h f i d l = rw e (go rs i (λ k d. f k d) (let n = ap length e ∙ length-append rs (row ∷ []) in omega (arith, n, l)))
+-- one program rule more
+pub more_program_rules : (g : Grammar) (ps : List Property) (rs more : List ProgramRule) (program_rule : ProgramRule) → more ≡ rs ++ program_rule ∷ [] → IsProgramRule g (names_in g) ps program_rule → ((i : ℕ) (d : ProgramRule) → i < length rs → IsProgramRule g (names_in g) ps (get_or rs i d)) → (i : ℕ) (d : ProgramRule) → i < length more → IsProgramRule g (names_in g) ps (get_or more i d)
+more_program_rules g ps rs more program_rule e h f i d l = rw e (go rs i (λ k d. f k d) (let n = ap length e ∙ length-append rs (program_rule ∷ []) in omega (arith, n, l)))
   where
-    go : (xs : List Row) (i : ℕ) → ((i : ℕ) (d : Row) → i < length xs → IsRow g (names_in g) ps (get_or xs i d)) → i < length xs + 1 → IsRow g (names_in g) ps (get_or (xs ++ row ∷ []) i d)
+    go : (xs : List ProgramRule) (i : ℕ) → ((i : ℕ) (d : ProgramRule) → i < length xs → IsProgramRule g (names_in g) ps (get_or xs i d)) → i < length xs + 1 → IsProgramRule g (names_in g) ps (get_or (xs ++ program_rule ∷ []) i d)
     go [] zero f l = h
     go [] (suc i) f l = absurd (omega (arith, l))
     go (x ∷ xs) zero f l = f zero d (omega arith)
@@ -204,5 +204,5 @@ all_taken [] (suc k) l = refl
 all_taken (r ∷ rs) zero l = absurd (omega (arith, l))
 all_taken (r ∷ rs) (suc k) l = ap (λ xs. r ∷ xs) (all_taken rs k (omega (arith, l)))
 
-pub all_rows : (rules : List OptimizedRule) (k : ℕ) (rs : List Row) → length rules ≤ k → map (rule_of_row (names_in (optimized_rules_of rules))) rs ≡ map optimized_rule_of (take k rules) → map (rule_of_row (names_in (optimized_rules_of rules))) rs ≡ optimized_rules_of rules
-all_rows rules k rs l e = e ∙ ap (map optimized_rule_of) (all_taken rules k l)
+pub all_program_rules : (rules : List OptimizedRule) (k : ℕ) (rs : List ProgramRule) → length rules ≤ k → map (grammar_rule (names_in (optimized_rules_of rules))) rs ≡ map optimized_rule_of (take k rules) → map (grammar_rule (names_in (optimized_rules_of rules))) rs ≡ optimized_rules_of rules
+all_program_rules rules k rs l e = e ∙ ap (map optimized_rule_of) (all_taken rules k l)

@@ -149,9 +149,9 @@ holds_at rules i rule l at =
     subst (λ r. Contains xs r) same (Contains-get_or xs i (optimized_rule_of rule) within)
 
 -- what is wrong with a body is wrong with the rules
-pub row_refused : {X : Type 0} (ps : List Property) (rules : List OptimizedRule) (i : ℕ) (rule : OptimizedRule) (r : Result X Unfit) (u : Unfit) → r ≡ Err u → i < length rules → rule ≡ get_or rules i rule
+pub rule_refused : {X : Type 0} (ps : List Property) (rules : List OptimizedRule) (i : ℕ) (rule : OptimizedRule) (r : Result X Unfit) (u : Unfit) → r ≡ Err u → i < length rules → rule ≡ get_or rules i rule
     → IsWrongIn ps (optimized_rules_of rules) (optimized_expression_of rule.expr) u → IfErr r (IsReason (has_property ps) (optimized_rules_of rules))
-row_refused ps rules i rule r u e l at h =
+rule_refused ps rules i rule r u e l at h =
     let here : Contains (optimized_rules_of rules) (optimized_rule_of rule) = holds_at rules i rule l at in
     rw e (wrong_outside (has_property ps) (optimized_rules_of rules) (Part (optimized_expression_of rule.expr)) (InSomeRule (optimized_rules_of rules)) (λ x p. (optimized_rule_of rule, here, p)) u h)
 

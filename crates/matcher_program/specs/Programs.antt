@@ -11,7 +11,7 @@ use Rattle.matcher_program.specs.declared.form.Class.{Class}
 use Rattle.matcher_program.specs.declared.form.Class.TheVariants as class
 use Rattle.matcher_program.specs.declared.form.Form.{Form}
 use Rattle.matcher_program.specs.declared.form.Form.TheVariants as form
-use Rattle.matcher_program.specs.declared.form.Row.{Row}
+use Rattle.matcher_program.specs.declared.form.ProgramRule.{ProgramRule}
 use Rattle.matcher_program.specs.declared.form.Property.{Property}
 
 -- the name of a class, and its set
@@ -107,15 +107,15 @@ module _ (names : List Text) where
   expression_of form.PopAll = spec.Ident (codes "POP_ALL")
   expression_of (form.PeekSlice i j) = spec.PeekSlice i j
 
-  abbrev pub rule_of_row : Row → Rule
-  rule_of_row r = record { name = text_of r.name; type_of = rule_type_of r.kind; body = expression_of r.body }
+  abbrev pub grammar_rule : ProgramRule → Rule
+  grammar_rule r = record { name = text_of r.name; type_of = rule_type_of r.kind; body = expression_of r.body }
 
--- the names of rows, and the grammar that the rows represent
-abbrev pub names_of : List Row → List Text
+-- the names of program rules, and the grammar that the program rules represent
+abbrev pub names_of : List ProgramRule → List Text
 names_of rs = map (λ r. text_of r.name) rs
 
-abbrev pub grammar_of : List Row → Grammar
-grammar_of rs = map (rule_of_row (names_of rs)) rs
+abbrev pub grammar_of : List ProgramRule → Grammar
+grammar_of rs = map (grammar_rule (names_of rs)) rs
 
 -- a number is that of the rule that a name means
 abbrev pub IsRuleOf : Grammar → Text → ℕ → Type 0
@@ -175,14 +175,15 @@ pub record IsKnown (g : Grammar) (number : Option ℕ) : Type 0 where
   pub name : Text
   pub meant : IsSkippedRule g name number
 
-abbrev pub IsRow : Grammar → List Text → List Property → Row → Type 0
-IsRow g names ps r = record {
+abbrev pub IsProgramRule : Grammar → List Text → List Property → ProgramRule → Type 0
+IsProgramRule g names ps r = record {
   bound : IsBound g names ps r.body;
   blank : r.blank ≡ (bytes_eq (text_of r.name) whitespace || bytes_eq (text_of r.name) comment);
 }
 
--- the rows, and the two that are skipped, are those of their grammar
-pub record IsSound (rs : List Row) (ps : List Property) (white note : Option ℕ) : Type 0 where
-  pub rows : (i : ℕ) (d : Row) → i < length rs → IsRow (grammar_of rs) (names_of rs) ps (get_or rs i d)
+-- the program rules, and the two that are skipped, are those of their grammar
+pub record IsSound (rs : List ProgramRule) (ps : List Property) (white note : Option ℕ) : Type 0 where
+  pub rules : (i : ℕ) (d : ProgramRule) → i < length rs
+      → IsProgramRule (grammar_of rs) (names_of rs) ps (get_or rs i d)
   pub whitespace_is : IsSkippedRule (grammar_of rs) whitespace white
   pub comment_is : IsSkippedRule (grammar_of rs) comment note

@@ -6,7 +6,7 @@ ghost use Rattle.base_ast.specs.Optimized.{optimized_expression_of, optimized_ru
 ghost use Rattle.base_language.specs.Language.Builtins.{is_one_of, property_names};
 ghost use Rattle.matcher_program.specs.declared.compile.Unfit.TheVariants.{Memory};
 ghost use Rattle.matcher_program.specs.declared.form.Property.{Property};
-ghost use Rattle.matcher_program.specs.Programs.{Fits, IsRow, IsSkippedRule, IsSound, class_name, grammar_of, rule_of_row};
+ghost use Rattle.matcher_program.specs.Programs.{Fits, IsProgramRule, IsSkippedRule, IsSound, class_name, grammar_of, grammar_rule};
 ghost use Rattle.matcher_program.specs.Compiled.{Compiles, names_in};
 ghost use Rattle.matcher_program.specs.Indexed.{KnowsLast};
 ghost use Rattle.matcher_program.specs.Refusals.{IsNoBuiltin, IsNoCharacter, IsReason, IsWrongBound, IsWrongIn, has_property};
@@ -14,7 +14,7 @@ ghost use Rattle.base_ast.specs.Ast.{text_of};
 ghost use Rattle.front_names.specs.Builtins.{name_of};
 ghost use Rattle.front_names.specs.CharSets.{set_name};
 
-use crate::form::{Class, Form, Program, Property, Row};
+use crate::form::{Class, Form, Program, ProgramRule, Property};
 use crate::forms::form_of;
 use crate::indexed::{Indexed, index_rules};
 use crate::properties::{Properties, find_property, properties_in};
@@ -171,16 +171,17 @@ fn is_blank(name: &str) -> bool
 }
 
 /// Compiles a rule.
-fn row_of(
+fn program_rule_of(
     alloc: Global,
     rules: &Indexed<'_>,
     properties: &[Property],
     rule: &OptimizedRule,
-) -> Result<Row, Unfit>
+) -> Result<ProgramRule, Unfit>
     requires { KnowsLast (optimized_rules_of rules.now.rules.now) rules.now.numbers }
-    ensures says { IfOk result (λ row. rule_of_row (names_in (optimized_rules_of rules.now.rules.now)) row
+    ensures says { IfOk result (λ program_rule.
+        grammar_rule (names_in (optimized_rules_of rules.now.rules.now)) program_rule
         ≡ optimized_rule_of rule.now) }
-    ensures sound { IfOk result (IsRow (optimized_rules_of rules.now.rules.now)
+    ensures sound { IfOk result (IsProgramRule (optimized_rules_of rules.now.rules.now)
         (names_in (optimized_rules_of rules.now.rules.now)) properties.now) }
     ensures refused { IfErr result (IsWrongIn properties.now (optimized_rules_of rules.now.rules.now)
         (optimized_expression_of rule.now.expr)) }
@@ -188,7 +189,7 @@ fn row_of(
     let name = rule.name.clone()?;
     let blank = is_blank(name.as_str());
     let body = to_set(alloc, form_of(alloc, rules, properties, &rule.expr)?)?;
-    Ok(Row {
+    Ok(ProgramRule {
         name,
         kind: rule.ty,
         blank,
@@ -197,24 +198,29 @@ fn row_of(
 }
 
 /// Compiles rules.
-fn rows_of(alloc: Global, rules: &Indexed<'_>, properties: &[Property]) -> Result<Vec<Row>, Unfit>
+fn program_rules_of(
+    alloc: Global,
+    rules: &Indexed<'_>,
+    properties: &[Property],
+) -> Result<Vec<ProgramRule>, Unfit>
     requires { KnowsLast (optimized_rules_of rules.now.rules.now) rules.now.numbers }
-    ensures sound { IfOk result (λ rows. (white note : Option ℕ)
+    ensures sound { IfOk result (λ program_rules. (white note : Option ℕ)
         → IsSkippedRule (optimized_rules_of rules.now.rules.now) whitespace white
         → IsSkippedRule (optimized_rules_of rules.now.rules.now) comment note
-        → IsSound rows.items properties.now white note) }
-    ensures means { IfOk result (λ rows. grammar_of rows.items ≡ optimized_rules_of rules.now.rules.now) }
+        → IsSound program_rules.items properties.now white note) }
+    ensures means { IfOk result (λ program_rules. grammar_of program_rules.items
+        ≡ optimized_rules_of rules.now.rules.now) }
     ensures refused { IfErr result (IsReason (has_property properties.now)
         (optimized_rules_of rules.now.rules.now)) }
 {
-    let mut rows = Vec::new(alloc);
+    let mut program_rules = Vec::new(alloc);
     for rule in rules.rules {
-        let row = row_of(alloc, rules, properties, rule)?;
-        if rows.push(row).is_err() {
+        let program_rule = program_rule_of(alloc, rules, properties, rule)?;
+        if program_rules.push(program_rule).is_err() {
             return Err(Unfit::Memory);
         }
     }
-    Ok(rows)
+    Ok(program_rules)
 }
 
 /// Compiles rules, with the sets of the property names that they name. Errors: an allocation failure; a
@@ -226,18 +232,18 @@ pub fn program_of<P: Properties>(
     properties: &P,
 ) -> Result<Program, Unfit>
     ensures sound { IfOk result (λ program.
-        IsSound program.rows.items program.properties.items program.whitespace program.comment) }
-    ensures means { IfOk result (λ program. grammar_of program.rows.items ≡ optimized_rules_of rules.now) }
+        IsSound program.rules.items program.properties.items program.whitespace program.comment) }
+    ensures means { IfOk result (λ program. grammar_of program.rules.items ≡ optimized_rules_of rules.now) }
     ensures fits { IfOk result (λ program. Fits program.properties.items P.classes) }
     ensures refused { IfErr result (IsReason P.knows (optimized_rules_of rules.now)) }
 {
     let properties = properties_in(alloc, rules, properties)?;
     let rules = index_rules(alloc, rules)?;
-    let rows = rows_of(alloc, &rules, &properties)?;
+    let program_rules = program_rules_of(alloc, &rules, &properties)?;
     let whitespace = rules.number_of(whitespace_name());
     let comment = rules.number_of(comment_name());
     Ok(Program {
-        rows,
+        rules: program_rules,
         properties,
         whitespace,
         comment,

@@ -58,16 +58,16 @@ pub enum Form {
 
 /// A compiled rule. `blank`: the rule has one of the two names that are skipped implicitly. The body is
 /// dropped iteratively.
-pub struct Row {
+pub struct ProgramRule {
     pub name: String,
     pub kind: RuleType,
     pub blank: bool,
     pub body: Form,
 }
 
-impl Drop for Row {
+impl Drop for ProgramRule {
     fn drop(self) {
-        let Row {
+        let ProgramRule {
             name: _,
             kind: _,
             blank: _,
@@ -87,7 +87,7 @@ pub struct Property {
 /// Compiled rules, the properties that they name, and the indices of those that are skipped implicitly.
 #[derive(Drop)]
 pub struct Program {
-    pub rows: Vec<Row>,
+    pub rules: Vec<ProgramRule>,
     pub properties: Vec<Property>,
     pub whitespace: Option<usize>,
     pub comment: Option<usize>,

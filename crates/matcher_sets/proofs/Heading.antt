@@ -21,13 +21,13 @@ use Rattle.matcher_code.proofs.Attempting.{called}
 use Rattle.matcher_code.specs.Laid.{FailsOutside, IsTight, Misses, IsSilentUnless, TakesNone}
 use Rattle.matcher_program.specs.declared.form.Form.{Form}
 use Rattle.matcher_program.specs.declared.form.Program.{Program}
-use Rattle.matcher_program.specs.declared.form.Row.{Row}
+use Rattle.matcher_program.specs.declared.form.ProgramRule.{ProgramRule}
 use Rattle.matcher_program.specs.Programs.{Fits}
 use Rattle.matcher_sets.specs.declared.first_sets.FirstSet.{FirstSet}
 use Rattle.matcher_sets.specs.declared.modes.Atomicity.{Atomicity}
 use Rattle.matcher_sets.specs.Differences.{AddsFirsts}
 use Rattle.matcher_sets.specs.Forms.{IsSoundProgram, grammar_in, said}
-use Rattle.matcher_sets.specs.FirstSets.{AreFirstSetsIn, HasFront, HasFirstSet, IsCall, IsGapFirstSet, IsJoin, TakesNothing}
+use Rattle.matcher_sets.specs.FirstSets.{AreFirstSetsIn, HasFront, HasFirstSet, IsCall, IsTriviaFirstSet, IsJoin, TakesNothing}
 use Rattle.matcher_sets.specs.Modes.{mode_of}
 use Rattle.matcher_sets.specs.Ranges.{Adds}
 use Rattle.matcher_sets.proofs.Ranging.{between_same, covered-append, or_none}
@@ -284,8 +284,8 @@ module _ (p : Program) (m : Mode) (a b : Expression) where
     takes = λ classes fits. tight_takes (grammar_in p) classes m a b h.ranges.items h.noted (tight classes) (with_empty h a classes q (x.takes classes fits));
   }
 
-  pub gap_front : (h k j : FirstSet) → h.empty ≡ true → m ≡ NonAtomicMode → IsJoin h k j → HasFirstSet p m a h → IsGapFirstSet p k → HasFront p m a j
-  gap_front h k j q e joined x y = record {
+  pub trivia_front : (h k j : FirstSet) → h.empty ≡ true → m ≡ NonAtomicMode → IsJoin h k j → HasFirstSet p m a h → IsTriviaFirstSet p k → HasFront p m a j
+  trivia_front h k j q e joined x y = record {
     takes = λ classes fits.
         let z = subst (λ i. TakesNothing (grammar_in p) classes (Skipping i) k.ranges.items true k.noted) (sym e) (y.takes classes fits) in
         let w = skipping_takes (grammar_in p) classes m a b h.ranges.items k.ranges.items h.noted k.noted (with_empty h a classes q (x.takes classes fits)) z in
@@ -344,14 +344,14 @@ call_first_set p m x r body first_set counts e c v has is = record {
 }
 
 -- the FIRST set of a body
-pub row_has : (p : Program) (rule : ℕ) (row : Row) (within : rule < length p.rows.items) (is : row ≡ get_or p.rows.items rule row) → IsSoundProgram p
-    → (m inner : Mode) → inner ≡ mode_in (rule_type_of row.kind) row.blank m → (first_sets : List (Option FirstSet)) → AreFirstSetsIn p inner first_sets
-    → (body : FirstSet) → get_or first_sets rule None ≡ Some body → HasFirstSet p (body_mode (made p rule row within is) m) (made p rule row within is).body body
-row_has p rule row within is sound m inner e first_sets are body k =
-    let x : HasFirstSet p inner (said p (get_or p.rows.items rule row).body) body =
-    subst (λ o. IfSome o (HasFirstSet p inner (said p (get_or p.rows.items rule row).body))) k (are rule row within) in
+pub program_rule_has : (p : Program) (rule : ℕ) (program_rule : ProgramRule) (within : rule < length p.rules.items) (is : program_rule ≡ get_or p.rules.items rule program_rule) → IsSoundProgram p
+    → (m inner : Mode) → inner ≡ mode_in (rule_type_of program_rule.kind) program_rule.blank m → (first_sets : List (Option FirstSet)) → AreFirstSetsIn p inner first_sets
+    → (body : FirstSet) → get_or first_sets rule None ≡ Some body → HasFirstSet p (body_mode (made p rule program_rule within is) m) (made p rule program_rule within is).body body
+program_rule_has p rule program_rule within is sound m inner e first_sets are body k =
+    let x : HasFirstSet p inner (said p (get_or p.rules.items rule program_rule).body) body =
+    subst (λ o. IfSome o (HasFirstSet p inner (said p (get_or p.rules.items rule program_rule).body))) k (are rule program_rule within) in
     let y = subst (λ r. HasFirstSet p inner (said p r.body) body) (sym is) x in
-    subst (λ z. HasFirstSet p z (said p row.body) body) (in_mode p rule row within is sound m inner e) y
+    subst (λ z. HasFirstSet p z (said p program_rule.body) body) (in_mode p rule program_rule within is sound m inner e) y
 
 -- what holds of a value that is made
 pub if_made : {A E : Type 0} {P Q : A → Type 0} (r : Result (Option A) E) → ((x : A) → P x → Q x) → IfOk r (λ made. IfSome made P) → IfOk r (λ made. IfSome made Q)
@@ -361,20 +361,20 @@ if_made (Err e) f h = tt
 
 -- another FIRST set of a body
 pub first_sets_put : (p : Program) (m : Mode) (list new : List (Option FirstSet)) (rule : ℕ) (first_set : Option FirstSet) → new ≡ set list rule first_set → rule < length list
-    → AreFirstSetsIn p m list → ((d : Row) → rule < length p.rows.items → IfSome first_set (HasFirstSet p m (said p (get_or p.rows.items rule d).body))) → AreFirstSetsIn p m new
+    → AreFirstSetsIn p m list → ((d : ProgramRule) → rule < length p.rules.items → IfSome first_set (HasFirstSet p m (said p (get_or p.rules.items rule d).body))) → AreFirstSetsIn p m new
 first_sets_put p m list new rule first_set e within are one i d l = elim (cases_lt i rule) [
   | inl a ↦ other (λ q. omega (arith, a, q))
   | inr a ↦ elim (cases_lt rule i) [ inl b ↦ other (λ q. omega (arith, b, q)) | inr b ↦ here (omega (arith, a, b)) ]
 ]
   where
-    other : (i ≡ rule → ⊥) → IfSome (get_or new i None) (HasFirstSet p m (said p (get_or p.rows.items i d).body))
+    other : (i ≡ rule → ⊥) → IfSome (get_or new i None) (HasFirstSet p m (said p (get_or p.rules.items i d).body))
     other apart =
-        subst (λ o. IfSome o (HasFirstSet p m (said p (get_or p.rows.items i d).body))) (sym (ap (λ x. get_or x i None) e ∙ get_or-set_other list rule i first_set None apart)) (are i d l)
+        subst (λ o. IfSome o (HasFirstSet p m (said p (get_or p.rules.items i d).body))) (sym (ap (λ x. get_or x i None) e ∙ get_or-set_other list rule i first_set None apart)) (are i d l)
 
-    here : rule ≡ i → IfSome (get_or new i None) (HasFirstSet p m (said p (get_or p.rows.items i d).body))
+    here : rule ≡ i → IfSome (get_or new i None) (HasFirstSet p m (said p (get_or p.rules.items i d).body))
     here q =
-        subst (λ j. IfSome (get_or new j None) (HasFirstSet p m (said p (get_or p.rows.items j d).body))) q
-        (subst (λ o. IfSome o (HasFirstSet p m (said p (get_or p.rows.items rule d).body))) (sym (ap (λ x. get_or x rule None) e ∙ get_or-set_same list rule first_set None within))
+        subst (λ j. IfSome (get_or new j None) (HasFirstSet p m (said p (get_or p.rules.items j d).body))) q
+        (subst (λ o. IfSome o (HasFirstSet p m (said p (get_or p.rules.items rule d).body))) (sym (ap (λ x. get_or x rule None) e ∙ get_or-set_same list rule first_set None within))
         (one d (omega (arith, q, l))))
 
 -- lists without a FIRST set
@@ -385,4 +385,4 @@ none_more (x ∷ xs) zero h = h 0
 none_more (x ∷ xs) (suc k) h = none_more xs k (λ j. h (suc j))
 
 pub no_first_sets : (p : Program) (m : Mode) (list : List (Option FirstSet)) → ((k : ℕ) → get_or list k None ≡ None) → AreFirstSetsIn p m list
-no_first_sets p m list h i d l = subst (λ o. IfSome o (HasFirstSet p m (said p (get_or p.rows.items i d).body))) (sym (h i)) tt
+no_first_sets p m list h i d l = subst (λ o. IfSome o (HasFirstSet p m (said p (get_or p.rules.items i d).body))) (sym (h i)) tt

@@ -9,7 +9,7 @@ use Rattle.matcher_code.specs.Laid.{HasOutcome}
 use Rattle.matcher_code.proofs.Characters.{silent_call_of_set}
 use Rattle.matcher_program.specs.declared.form.Form.TheVariants as form
 use Rattle.matcher_program.specs.declared.form.Program.{Program}
-use Rattle.matcher_program.specs.declared.form.Row.{Row}
+use Rattle.matcher_program.specs.declared.form.ProgramRule.{ProgramRule}
 use Rattle.matcher_program.specs.Programs.{IsRuleOf, name_at, names_of}
 use Rattle.matcher_sets.specs.declared.modes.Atomicity.{Atomicity}
 use Rattle.matcher_sets.specs.declared.modes.Atomicity.TheVariants as mode
@@ -25,11 +25,11 @@ inner_mode false mode.NonAtomic = (mode.NonAtomic, refl)
 inner_mode false mode.Atomic = (mode.Atomic, refl)
 inner_mode false mode.CompoundAtomic = (mode.CompoundAtomic, refl)
 
-pub call_has : (p : Program) (rule : ℕ) (row : Row) (within : rule < length p.rows.items) (is : row ≡ get_or p.rows.items rule row)
-    → IsRuleOf (grammar_in p) (name_at (names_of p.rows.items) rule) rule → rule_type_of row.kind ≡ Silent
-    → (ranges : List (ℕ × ℕ)) → HasRanges p row.body ranges → HasRanges p (form.Call rule) ranges
-call_has p rule row within is meant silent ranges has classes fits =
-    let r = made p rule row within is in
+pub call_has : (p : Program) (rule : ℕ) (program_rule : ProgramRule) (within : rule < length p.rules.items) (is : program_rule ≡ get_or p.rules.items rule program_rule)
+    → IsRuleOf (grammar_in p) (name_at (names_of p.rules.items) rule) rule → rule_type_of program_rule.kind ≡ Silent
+    → (ranges : List (ℕ × ℕ)) → HasRanges p program_rule.body ranges → HasRanges p (form.Call rule) ranges
+call_has p rule program_rule within is meant silent ranges has classes fits =
+    let r = made p rule program_rule within is in
     let x = has classes fits in
     let blank = bytes_eq r.name whitespace || bytes_eq r.name comment in
     record {
@@ -38,7 +38,7 @@ call_has p rule row within is meant silent ranges has classes fits =
       holds = λ m.
           let k = inner_mode blank m in
           let e : mode_of k.0 ≡ body_mode r (mode_of m) = k.1 ∙ ap (λ t. mode_in t blank (mode_of m)) (sym silent) in
-          silent_call_of_set (grammar_in p) classes (mode_of m) (name_at (names_of p.rows.items) rule) r x.characters (meant_is p rule row within is meant)
+          silent_call_of_set (grammar_in p) classes (mode_of m) (name_at (names_of p.rules.items) rule) r x.characters (meant_is p rule program_rule within is meant)
           (ap (λ t. gives_token t (mode_of m)) silent)
-          (subst (λ z. HasOutcome (grammar_in p) classes (Run z (said p row.body)) (character_outcome x.characters) in_silence) e (x.holds k.0));
+          (subst (λ z. HasOutcome (grammar_in p) classes (Run z (said p program_rule.body)) (character_outcome x.characters) in_silence) e (x.holds k.0));
     }

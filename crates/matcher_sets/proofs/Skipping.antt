@@ -16,11 +16,11 @@ use Rattle.matcher_code.proofs.Attempting.{called}
 use Rattle.matcher_code.specs.Laid.{FailsOutside, Misses}
 use Rattle.matcher_code.specs.Steps.{one_place}
 use Rattle.matcher_program.specs.declared.form.Program.{Program}
-use Rattle.matcher_program.specs.declared.form.Row.{Row}
-use Rattle.matcher_program.specs.Programs.{Fits, IsRuleOf, name_at, names_of, rule_of_row}
+use Rattle.matcher_program.specs.declared.form.ProgramRule.{ProgramRule}
+use Rattle.matcher_program.specs.Programs.{Fits, IsRuleOf, name_at, names_of, grammar_rule}
 use Rattle.matcher_sets.specs.declared.first_sets.FirstSet.{FirstSet}
 use Rattle.matcher_sets.specs.Forms.{grammar_in, no_rule}
-use Rattle.matcher_sets.specs.FirstSets.{HasFirstSet, IsGapFirstSet, IsJoin, IsSkipFirstSet, TakesNothing}
+use Rattle.matcher_sets.specs.FirstSets.{HasFirstSet, IsTriviaFirstSet, IsJoin, IsSkipFirstSet, TakesNothing}
 use Rattle.matcher_sets.proofs.Heading.{fails_outside, greater_place, misses_parts}
 use Rattle.matcher_sets.proofs.Leaves.{other_failures}
 use Rattle.matcher_sets.proofs.Recording.{three_unless}
@@ -45,12 +45,12 @@ pub white_is_skipped : IsSkipName whitespace
 unfolding whitespace comment
 white_is_skipped = refl
 
--- the name of a row, and that of its rule
-row_name : (names : List Text) (rows : List Row) (i : ℕ) (d : Rule) → i < length rows
-    → get_or (map (λ r. text_of r.name) rows) i [] ≡ (get_or (map (rule_of_row names) rows) i d).name
-row_name names [] i d l = absurd (omega (arith, l))
-row_name names (r ∷ rows) zero d l = refl
-row_name names (r ∷ rows) (suc i) d l = row_name names rows i d (omega (arith, l))
+-- the name of a program rule, and that of its rule
+program_rule_name : (names : List Text) (program_rules : List ProgramRule) (i : ℕ) (d : Rule) → i < length program_rules
+    → get_or (map (λ r. text_of r.name) program_rules) i [] ≡ (get_or (map (grammar_rule names) program_rules) i d).name
+program_rule_name names [] i d l = absurd (omega (arith, l))
+program_rule_name names (r ∷ program_rules) zero d l = refl
+program_rule_name names (r ∷ program_rules) (suc i) d l = program_rule_name names program_rules i d (omega (arith, l))
 
 -- a call of `COMMENT` in the implicit skipping is as one in NonAtomic
 same_body : (t : RuleType) (b : Bool) → b ≡ true → mode_in t b NonAtomicMode ≡ mode_in t b Between
@@ -106,29 +106,29 @@ module _ (g : Grammar) (classes : Classes) (x : Text) (r : Rule) (h : rule_of g 
 
 -- a rule that is called in the implicit skipping
 module _ (p : Program) (x : Text) (i : ℕ) (meant : IsRuleOf (grammar_in p) x i) where
-  skipped_within : i < length p.rows.items
+  skipped_within : i < length p.rules.items
   skipped_within =
       let l = meant.within in
-      omega (arith, l, length-map p.rows.items (rule_of_row (names_of p.rows.items)))
+      omega (arith, l, length-map p.rules.items (grammar_rule (names_of p.rules.items)))
 
-  pub skipped_named : name_at (names_of p.rows.items) i ≡ x
-  skipped_named = row_name (names_of p.rows.items) p.rows.items i no_rule skipped_within ∙ meant.named no_rule
+  pub skipped_named : name_at (names_of p.rules.items) i ≡ x
+  skipped_named = program_rule_name (names_of p.rules.items) p.rules.items i no_rule skipped_within ∙ meant.named no_rule
 
-  pub skipped_is_rule : IsRuleOf (grammar_in p) (name_at (names_of p.rows.items) i) i
+  pub skipped_is_rule : IsRuleOf (grammar_in p) (name_at (names_of p.rules.items) i) i
   skipped_is_rule = subst (λ n. IsRuleOf (grammar_in p) n i) (sym skipped_named) meant
 
   pub rule_is_skipped : IsSkipName x → IsSkipName (get_or (grammar_in p) i no_rule).name
   rule_is_skipped blank = subst IsSkipName (sym (meant.named no_rule)) blank
 
   -- where no character of its FIRST set is next, the call fails
-  pub skipped_fails : IsSkipName x → (h : FirstSet) → HasFirstSet p NonAtomicMode (Ident (name_at (names_of p.rows.items) i)) h → h.empty ≡ false
+  pub skipped_fails : IsSkipName x → (h : FirstSet) → HasFirstSet p NonAtomicMode (Ident (name_at (names_of p.rules.items) i)) h → h.empty ≡ false
       → IsSkipFirstSet p x h
   skipped_fails blank h has q = record { fails = fails }
     where
       fails : (classes : Classes) → Fits p.properties.items classes → FailsOutside (grammar_in p) classes (Run Between (Ident x)) h.ranges.items h.noted
       fails classes fits s miss =
           let f : FailsOutside (grammar_in p) classes (Run NonAtomicMode (Ident x)) h.ranges.items h.noted =
-          subst (λ y. FailsOutside (grammar_in p) classes (Run NonAtomicMode (Ident y)) h.ranges.items h.noted) skipped_named (fails_outside p NonAtomicMode (Ident (name_at (names_of p.rows.items) i)) h has q classes fits) in
+          subst (λ y. FailsOutside (grammar_in p) classes (Run NonAtomicMode (Ident y)) h.ranges.items h.noted) skipped_named (fails_outside p NonAtomicMode (Ident (name_at (names_of p.rules.items) i)) h has q classes fits) in
           let z = f s miss in
           let y = does_between (grammar_in p) classes x (get_or (grammar_in p) i no_rule) (meant.meant no_rule) (rule_is_skipped blank) s Failure z.0 in
           (y.0, ap (λ f. f.furthest) (y.1 (one_place 0)) ∙ z.1, λ e place. y.1 place ∙ z.2 e place)
@@ -145,8 +145,8 @@ zero_between : (a b : ℕ) → max a (max 0 b) ≡ max a b
 zero_between a b = omega arith
 
 -- where neither a blank nor a comment can begin, nothing is skipped
-pub gap_takes : (p : Program) (h k j : FirstSet) → IsSkipFirstSet p whitespace h → IsSkipFirstSet p comment k → IsJoin h k j → IsGapFirstSet p j
-gap_takes p h k j b n joined = record { takes = takes }
+pub trivia_takes : (p : Program) (h k j : FirstSet) → IsSkipFirstSet p whitespace h → IsSkipFirstSet p comment k → IsJoin h k j → IsTriviaFirstSet p j
+trivia_takes p h k j b n joined = record { takes = takes }
   where
     takes : (classes : Classes) → Fits p.properties.items classes → TakesNothing (grammar_in p) classes (Skipping NonAtomicMode) j.ranges.items true j.noted
     takes classes fits s miss =

@@ -7,7 +7,7 @@ use Rattle.base_language.specs.Language.Text.{Text}
 use Rattle.base_language.specs.Language.State.{AtomicMode, Between, Classes, CompoundAtomicMode, Failure, Mode, NonAtomicMode, None', Outcome, State, Success}
 use Rattle.matcher_code.specs.Laid.{FailsOutside, Misses, IsSilentUnless}
 use Rattle.matcher_program.specs.declared.form.Program.{Program}
-use Rattle.matcher_program.specs.declared.form.Row.{Row}
+use Rattle.matcher_program.specs.declared.form.ProgramRule.{ProgramRule}
 use Rattle.matcher_program.specs.Programs.{Fits}
 use Rattle.matcher_sets.specs.declared.first_sets.FirstSet.{FirstSet}
 use Rattle.matcher_sets.specs.declared.first_sets.FirstSets.{FirstSets}
@@ -39,7 +39,7 @@ pub record HasFront (p : Program) (m : Mode) (e : Expression) (h : FirstSet) : T
       × IsSilentUnless h.noted d × IsSilentUnless h.noted k)
 
 -- so it is of the implicit skipping in NonAtomic
-pub record IsGapFirstSet (p : Program) (h : FirstSet) : Type 0 where
+pub record IsTriviaFirstSet (p : Program) (h : FirstSet) : Type 0 where
   pub takes : (classes : Classes) → Fits p.properties.items classes
       → TakesNothing (grammar_in p) classes (Skipping NonAtomicMode) h.ranges.items true h.noted
 
@@ -63,11 +63,11 @@ pub record IsCall (body : FirstSet) (counts : Bool) (first_set : FirstSet) : Typ
 
 -- so it is of the bodies of rules, where a FIRST set is known
 abbrev pub AreFirstSetsIn : Program → Mode → List (Option FirstSet) → Type 0
-AreFirstSetsIn p m first_sets = (i : ℕ) (d : Row) → i < length p.rows.items
-    → IfSome (get_or first_sets i None) (HasFirstSet p m (said p (get_or p.rows.items i d).body))
+AreFirstSetsIn p m first_sets = (i : ℕ) (d : ProgramRule) → i < length p.rules.items
+    → IfSome (get_or first_sets i None) (HasFirstSet p m (said p (get_or p.rules.items i d).body))
 
 pub record AreFirstSets (p : Program) (first_sets : FirstSets) : Type 0 where
   pub non_atomic : AreFirstSetsIn p NonAtomicMode first_sets.non_atomic.items
   pub atomic : AreFirstSetsIn p AtomicMode first_sets.atomic.items
   pub compound_atomic : AreFirstSetsIn p CompoundAtomicMode first_sets.compound_atomic.items
-  pub gap : IfSome first_sets.gap (IsGapFirstSet p)
+  pub trivia : IfSome first_sets.trivia (IsTriviaFirstSet p)

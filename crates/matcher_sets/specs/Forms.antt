@@ -7,10 +7,10 @@ use Rattle.matcher_program.specs.Programs.{IsBound, IsSound, expression_of, gram
 
 -- the grammar of a program, and the names of its rules
 abbrev pub grammar_in : Program → Grammar
-grammar_in p = grammar_of p.rows.items
+grammar_in p = grammar_of p.rules.items
 
 abbrev pub said : Program → Form → Expression
-said p f = expression_of (names_of p.rows.items) f
+said p f = expression_of (names_of p.rules.items) f
 
 -- a stand-in for a rule that a grammar does not have
 abbrev pub no_rule : Rule
@@ -18,8 +18,8 @@ no_rule = record { name = []; type_of = Normal; body = Str [] }
 
 -- the names in a form mean what they are resolved to
 abbrev pub IsBoundIn : Program → Form → Type 0
-IsBoundIn p f = IsBound (grammar_in p) (names_of p.rows.items) p.properties.items f
+IsBoundIn p f = IsBound (grammar_in p) (names_of p.rules.items) p.properties.items f
 
 -- the names of the rules mean what they are resolved to
 abbrev pub IsSoundProgram : Program → Type 0
-IsSoundProgram p = IsSound p.rows.items p.properties.items p.whitespace p.comment
+IsSoundProgram p = IsSound p.rules.items p.properties.items p.whitespace p.comment

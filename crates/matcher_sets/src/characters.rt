@@ -10,7 +10,7 @@ ghost use Rattle.matcher_sets.specs.Forms.{IsBoundIn, IsSoundProgram, grammar_in
 use crate::difference::choice_ranges;
 use base_ast::ast::RuleType;
 use matcher_code::ranges::Ranges;
-use matcher_program::form::{Form, Program, Row};
+use matcher_program::form::{Form, Program, ProgramRule};
 use std::alloc::{AllocError, Global};
 
 /// Returns the ranges of the characters that a call of a silent rule matches, if its body is a choice of sets
@@ -19,16 +19,16 @@ fn silent_ranges(
     alloc: Global,
     program: &Program,
     rule: usize,
-    row: &Row,
+    program_rule: &ProgramRule,
     body: &Form,
 ) -> Result<Option<Ranges>, AllocError>
     requires sound { IsSoundProgram program.now }
-    requires within { rule < length program.now.rows.items }
+    requires within { rule < length program.now.rules.items }
     requires meant { IsRuleOf (grammar_in program.now)
-        (name_at (names_of program.now.rows.items) rule) rule }
-    requires is { row.now ≡ get_or program.now.rows.items rule row.now }
-    requires kind { rule_type_of row.now.kind ≡ Silent }
-    requires body { body.now ≡ row.now.body }
+        (name_at (names_of program.now.rules.items) rule) rule }
+    requires is { program_rule.now ≡ get_or program.now.rules.items rule program_rule.now }
+    requires kind { rule_type_of program_rule.now.kind ≡ Silent }
+    requires body { body.now ≡ program_rule.now.body }
     ensures { IfOk result (λ made. IfSome made (λ ranges.
         HasRanges program.now (form.Call rule) ranges.items)) }
 {
@@ -44,13 +44,19 @@ fn silent_ranges(
 fn call_ranges(alloc: Global, program: &Program, rule: usize) -> Result<Option<Ranges>, AllocError>
     requires sound { IsSoundProgram program.now }
     requires meant { IsRuleOf (grammar_in program.now)
-        (name_at (names_of program.now.rows.items) rule) rule }
+        (name_at (names_of program.now.rules.items) rule) rule }
     ensures { IfOk result (λ made. IfSome made (λ ranges.
         HasRanges program.now (form.Call rule) ranges.items)) }
 {
-    match program.rows.get(rule) {
-        Some(row) => match row.kind {
-            RuleType::Silent => silent_ranges(alloc, program, rule, row, &row.body),
+    match program.rules.get(rule) {
+        Some(program_rule) => match program_rule.kind {
+            RuleType::Silent => silent_ranges(
+                alloc,
+                program,
+                rule,
+                program_rule,
+                &program_rule.body,
+            ),
             _ => Ok(None),
         },
         None => Ok(None),

@@ -17,7 +17,7 @@ use crate::modes::{Atomicity, body_mode, gives_token, is_seen_from};
 use crate::ranges::{first_character, push_range};
 use base_ast::ast::RuleType;
 use matcher_code::ranges::Ranges;
-use matcher_program::form::{Form, Program, Row};
+use matcher_program::form::{Form, Program, ProgramRule};
 use std::alloc::{AllocError, Global};
 
 /// How deep the parts of a form are looked into.
@@ -43,7 +43,7 @@ pub struct FirstSets {
     pub(crate) non_atomic: Vec<Option<FirstSet>>,
     pub(crate) atomic: Vec<Option<FirstSet>>,
     pub(crate) compound_atomic: Vec<Option<FirstSet>>,
-    pub(crate) gap: Option<FirstSet>,
+    pub(crate) trivia: Option<FirstSet>,
     /// Whether a call whose failure is recorded has no FIRST set.
     pub calls_all: bool,
 }
@@ -252,28 +252,28 @@ fn is_uncounted(kind: RuleType, mode: Atomicity) -> bool
 }
 
 /// Returns the FIRST set of a call of a rule.
-fn row_first_set(
+fn program_rule_first_set(
     alloc: Global,
     program: &Program,
     first_sets: &FirstSets,
     rule: usize,
-    row: &Row,
+    program_rule: &ProgramRule,
     mode: Atomicity,
 ) -> Result<Option<FirstSet>, AllocError>
     requires sound { IsSoundProgram program.now }
     requires first_sets { AreFirstSets program.now first_sets.now }
-    requires within { rule < length program.now.rows.items }
+    requires within { rule < length program.now.rules.items }
     requires meant { IsRuleOf (grammar_in program.now)
-        (name_at (names_of program.now.rows.items) rule) rule }
-    requires is { row.now ≡ get_or program.now.rows.items rule row.now }
+        (name_at (names_of program.now.rules.items) rule) rule }
+    requires is { program_rule.now ≡ get_or program.now.rules.items rule program_rule.now }
     ensures { IfOk result (λ made. IfSome made (HasFirstSet program.now (mode_of mode)
-        (Ident (name_at (names_of program.now.rows.items) rule)))) }
+        (Ident (name_at (names_of program.now.rules.items) rule)))) }
 {
-    if is_uncounted(row.kind, mode) {
+    if is_uncounted(program_rule.kind, mode) {
         return Ok(None);
     }
-    let inner = body_mode(row.kind, row.blank, mode);
-    let counts = is_counted(row.kind, mode);
+    let inner = body_mode(program_rule.kind, program_rule.blank, mode);
+    let counts = is_counted(program_rule.kind, mode);
     if counts && first_sets.calls_all {
         return Ok(None);
     }
@@ -295,12 +295,19 @@ pub fn call_first_set(
     requires sound { IsSoundProgram program.now }
     requires first_sets { AreFirstSets program.now first_sets.now }
     requires meant { IsRuleOf (grammar_in program.now)
-        (name_at (names_of program.now.rows.items) rule) rule }
+        (name_at (names_of program.now.rules.items) rule) rule }
     ensures { IfOk result (λ made. IfSome made (HasFirstSet program.now (mode_of mode)
-        (Ident (name_at (names_of program.now.rows.items) rule)))) }
+        (Ident (name_at (names_of program.now.rules.items) rule)))) }
 {
-    match program.rows.get(rule) {
-        Some(row) => row_first_set(alloc, program, first_sets, rule, row, mode),
+    match program.rules.get(rule) {
+        Some(program_rule) => program_rule_first_set(
+            alloc,
+            program,
+            first_sets,
+            rule,
+            program_rule,
+            mode,
+        ),
         None => Ok(None),
     }
 }
@@ -331,8 +338,8 @@ fn front_first_set(
     if is_tight(mode) {
         return Ok(Some(first));
     }
-    match known_first_set(&first_sets.gap) {
-        Some(gap) => join(first, gap),
+    match known_first_set(&first_sets.trivia) {
+        Some(trivia) => join(first, trivia),
         None => Ok(None),
     }
 }

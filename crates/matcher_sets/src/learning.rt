@@ -4,9 +4,9 @@ ghost use Rattle.base_language.specs.Language.Expression.{comment, whitespace};
 ghost use Rattle.base_language.specs.Language.State.{Mode};
 ghost use Rattle.matcher_program.specs.Programs.{IsKnown, IsSkippedRule};
 ghost use Rattle.matcher_program.specs.declared.form.Program.{Program};
-ghost use Rattle.matcher_program.specs.declared.form.Row.{Row};
+ghost use Rattle.matcher_program.specs.declared.form.ProgramRule.{ProgramRule};
 ghost use Rattle.matcher_sets.specs.Forms.{IsSoundProgram, grammar_in, said};
-ghost use Rattle.matcher_sets.specs.FirstSets.{AreFirstSets, AreFirstSetsIn, HasFirstSet, IsGapFirstSet, IsSkipFirstSet};
+ghost use Rattle.matcher_sets.specs.FirstSets.{AreFirstSets, AreFirstSetsIn, HasFirstSet, IsTriviaFirstSet, IsSkipFirstSet};
 ghost use Rattle.matcher_sets.specs.Modes.{mode_of};
 
 use crate::first_sets::{
@@ -22,8 +22,8 @@ const ROUNDS: u32 = 3;
 /// Sets the FIRST set of a body.
 fn put(list: &mut Vec<Option<FirstSet>>, rule: usize, first_set: Option<FirstSet>)
     ensures { (p : Program) (m : Mode) → AreFirstSetsIn p m list.old.items
-        → ((d : Row) → rule < length p.rows.items
-        → IfSome first_set (HasFirstSet p m (said p (get_or p.rows.items rule d).body)))
+        → ((d : ProgramRule) → rule < length p.rules.items
+        → IfSome first_set (HasFirstSet p m (said p (get_or p.rules.items rule d).body)))
         → AreFirstSetsIn p m list.new.items }
 {
     if rule < list.len() {
@@ -39,8 +39,8 @@ fn set_first_set(
     first_set: Option<FirstSet>,
 )
     ensures { (p : Program) → AreFirstSets p first_sets.old
-        → ((d : Row) → rule < length p.rows.items
-        → IfSome first_set (HasFirstSet p (mode_of mode) (said p (get_or p.rows.items rule d).body)))
+        → ((d : ProgramRule) → rule < length p.rules.items
+        → IfSome first_set (HasFirstSet p (mode_of mode) (said p (get_or p.rules.items rule d).body)))
         → AreFirstSets p first_sets.new }
 {
     match mode {
@@ -66,14 +66,14 @@ fn learn(
     if rule_first_set(first_sets_in(first_sets, mode), rule).is_some() {
         return Ok(false);
     }
-    let row = match program.rows.get(rule) {
-        Some(row) => row,
+    let program_rule = match program.rules.get(rule) {
+        Some(program_rule) => program_rule,
         None => return Ok(false),
     };
-    if !has_body_in(row, mode) {
+    if !has_body_in(program_rule, mode) {
         return Ok(false);
     }
-    let made = form_first_set(alloc, program, first_sets, &row.body, mode, DEPTH)?;
+    let made = form_first_set(alloc, program, first_sets, &program_rule.body, mode, DEPTH)?;
     let is_found = made.is_some();
     set_first_set(first_sets, rule, mode, made);
     Ok(is_found)
@@ -107,7 +107,7 @@ fn learn_all(
     ensures { OnOk result (AreFirstSets program.now first_sets.new) }
 {
     let mut is_found = false;
-    let mut below = program.rows.len();
+    let mut below = program.rules.len();
     while below > 0 {
         below -= 1;
         if learn_rule(alloc, program, first_sets, below)? {
@@ -159,14 +159,14 @@ fn skip_first_set(
 }
 
 /// Returns the FIRST set of the implicit skipping in NonAtomic, by those of blanks and comments.
-fn gap_first_set(
+fn trivia_first_set(
     alloc: Global,
     program: &Program,
     first_sets: &FirstSets,
 ) -> Result<Option<FirstSet>, AllocError>
     requires sound { IsSoundProgram program.now }
     requires first_sets { AreFirstSets program.now first_sets.now }
-    ensures { IfOk result (λ made. IfSome made (IsGapFirstSet program.now)) }
+    ensures { IfOk result (λ made. IfSome made (IsTriviaFirstSet program.now)) }
 {
     let blanks = skip_first_set(alloc, program, first_sets, program.whitespace)?;
     let blank = match blanks {
@@ -181,13 +181,17 @@ fn gap_first_set(
 }
 
 /// Looks for the FIRST set of the implicit skipping.
-fn learn_gap(alloc: Global, program: &Program, first_sets: &mut FirstSets) -> Result<(), AllocError>
+fn learn_trivia(
+    alloc: Global,
+    program: &Program,
+    first_sets: &mut FirstSets,
+) -> Result<(), AllocError>
     requires sound { IsSoundProgram program.now }
     requires first_sets { AreFirstSets program.now first_sets.old }
     ensures { OnOk result (AreFirstSets program.now first_sets.new) }
 {
-    let made = gap_first_set(alloc, program, first_sets)?;
-    first_sets.gap = made;
+    let made = trivia_first_set(alloc, program, first_sets)?;
+    first_sets.trivia = made;
     Ok(())
 }
 
@@ -212,7 +216,7 @@ pub fn rule_first_sets(
     requires sound { IsSoundProgram program.now }
     ensures { IfOk result (AreFirstSets program.now) }
 {
-    let rules = program.rows.len();
+    let rules = program.rules.len();
     let non_atomic = none_known(alloc, rules)?;
     let atomic = none_known(alloc, rules)?;
     let compound_atomic = none_known(alloc, rules)?;
@@ -220,7 +224,7 @@ pub fn rule_first_sets(
         non_atomic,
         atomic,
         compound_atomic,
-        gap: None,
+        trivia: None,
         calls_all,
     };
     'rounds: for round in 0..ROUNDS {
@@ -228,7 +232,7 @@ pub fn rule_first_sets(
         if round > 0 && !is_found {
             return Ok(first_sets);
         }
-        learn_gap(alloc, program, &mut first_sets)?;
+        learn_trivia(alloc, program, &mut first_sets)?;
     }
     Ok(first_sets)
 }

@@ -5,7 +5,7 @@ ghost use Rattle.base_language.specs.Language.Meaning.{gives_token, mode_in, see
 ghost use Rattle.matcher_sets.specs.Modes.{mode_of};
 
 use base_ast::ast::RuleType;
-use matcher_program::form::Row;
+use matcher_program::form::ProgramRule;
 
 /// The atomicity.
 #[derive(Clone, Copy)]
@@ -52,15 +52,23 @@ pub fn body_mode(kind: RuleType, blank: bool, mode: Atomicity) -> Atomicity
 }
 
 /// Returns whether the body of a rule is run in a mode, whatever its caller's mode is.
-pub(crate) fn has_body_in(row: &Row, mode: Atomicity) -> bool {
+pub(crate) fn has_body_in(program_rule: &ProgramRule, mode: Atomicity) -> bool {
     match mode {
         Atomicity::NonAtomic => {
-            matches!(body_mode(row.kind, row.blank, mode), Atomicity::NonAtomic)
+            matches!(
+                body_mode(program_rule.kind, program_rule.blank, mode),
+                Atomicity::NonAtomic
+            )
         }
-        Atomicity::Atomic => matches!(body_mode(row.kind, row.blank, mode), Atomicity::Atomic),
+        Atomicity::Atomic => {
+            matches!(
+                body_mode(program_rule.kind, program_rule.blank, mode),
+                Atomicity::Atomic
+            )
+        }
         Atomicity::CompoundAtomic => {
             matches!(
-                body_mode(row.kind, row.blank, mode),
+                body_mode(program_rule.kind, program_rule.blank, mode),
                 Atomicity::CompoundAtomic
             )
         }

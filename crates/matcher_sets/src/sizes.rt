@@ -1,7 +1,7 @@
 //! Sizes of bodies, with those that are laid in the place of calls in them. Only the size and the speed of
 //! programs depend on them.
 use crate::modes::{Atomicity, body_mode, gives_token};
-use matcher_program::form::{Form, Program, Row};
+use matcher_program::form::{Form, Program, ProgramRule};
 use std::alloc::{AllocError, Global};
 
 /// The size of the largest body that is laid in place, in forms without parts.
@@ -66,8 +66,8 @@ impl Sizes {
 
     /// Returns whether the body of a rule in a mode is small enough to be laid in place. Rules that are
     /// skipped implicitly are called, since their calls are many.
-    pub fn is_small(&self, row: &Row, rule: usize, mode: Atomicity) -> bool {
-        !row.blank && self.size_of(Body { rule, mode }) <= MOST_FORMS
+    pub fn is_small(&self, program_rule: &ProgramRule, rule: usize, mode: Atomicity) -> bool {
+        !program_rule.blank && self.size_of(Body { rule, mode }) <= MOST_FORMS
     }
 
     /// Returns whether two copies of a form in a mode are small enough to be laid.
@@ -81,14 +81,14 @@ impl Sizes {
 
     /// Returns the size of a call in a body: that of what is called, if it is laid in place.
     fn call_size(&self, program: &Program, rule: usize, inside: Body) -> u32 {
-        let row = match program.rows.get(rule) {
-            Some(row) => row,
+        let program_rule = match program.rules.get(rule) {
+            Some(program_rule) => program_rule,
             None => return 1,
         };
-        let mode = body_mode(row.kind, row.blank, inside.mode);
-        if gives_token(row.kind, inside.mode)
+        let mode = body_mode(program_rule.kind, program_rule.blank, inside.mode);
+        if gives_token(program_rule.kind, inside.mode)
             || rule == inside.rule
-            || !self.is_small(row, rule, mode)
+            || !self.is_small(program_rule, rule, mode)
         {
             1
         } else {
@@ -131,8 +131,8 @@ impl Sizes {
         if before > MOST_FORMS {
             return false;
         }
-        let size = match program.rows.get(body.rule) {
-            Some(row) => self.form_size(program, &row.body, body, DEPTH),
+        let size = match program.rules.get(body.rule) {
+            Some(program_rule) => self.form_size(program, &program_rule.body, body, DEPTH),
             None => return false,
         };
         if let Some(place) = self.list.get_mut(index_of(body)) {
@@ -155,7 +155,7 @@ impl Sizes {
     /// Counts all bodies again. Returns whether one has another size than before.
     fn count_all(&mut self, program: &Program) -> bool {
         let mut changed = false;
-        for rule in 0..program.rows.len() {
+        for rule in 0..program.rules.len() {
             if self.count_rule(program, rule) {
                 changed = true;
             }
@@ -165,10 +165,13 @@ impl Sizes {
 }
 
 /// Returns whether a call of a rule that gives no token runs its body in a mode.
-fn is_called_without_token(row: &Row, mode: Atomicity) -> bool {
+fn is_called_without_token(program_rule: &ProgramRule, mode: Atomicity) -> bool {
     for caller in MODES {
-        if !gives_token(row.kind, caller)
-            && is_same_mode(body_mode(row.kind, row.blank, caller), mode)
+        if !gives_token(program_rule.kind, caller)
+            && is_same_mode(
+                body_mode(program_rule.kind, program_rule.blank, caller),
+                mode,
+            )
         {
             return true;
         }
@@ -177,8 +180,8 @@ fn is_called_without_token(row: &Row, mode: Atomicity) -> bool {
 }
 
 /// Returns the size of a body before it is counted: too large if it is never laid in place.
-fn first_size(row: &Row, mode: Atomicity) -> u32 {
-    if is_called_without_token(row, mode) {
+fn first_size(program_rule: &ProgramRule, mode: Atomicity) -> u32 {
+    if is_called_without_token(program_rule, mode) {
         1
     } else {
         MOST_FORMS + 1
@@ -187,11 +190,11 @@ fn first_size(row: &Row, mode: Atomicity) -> u32 {
 
 /// Returns the sizes of all bodies. The only error is an allocation failure.
 pub fn body_sizes(alloc: Global, program: &Program) -> Result<Sizes, AllocError> {
-    let mut list = Vec::with_capacity(alloc, program.rows.len().saturating_mul(3))?;
-    'bodies: for row in &program.rows {
-        list.push(first_size(row, Atomicity::NonAtomic))?;
-        list.push(first_size(row, Atomicity::Atomic))?;
-        list.push(first_size(row, Atomicity::CompoundAtomic))?;
+    let mut list = Vec::with_capacity(alloc, program.rules.len().saturating_mul(3))?;
+    'bodies: for program_rule in &program.rules {
+        list.push(first_size(program_rule, Atomicity::NonAtomic))?;
+        list.push(first_size(program_rule, Atomicity::Atomic))?;
+        list.push(first_size(program_rule, Atomicity::CompoundAtomic))?;
     }
     let mut sizes = Sizes { list };
     'rounds: for _ in 0..MOST_INSIDE {

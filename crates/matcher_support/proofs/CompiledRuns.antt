@@ -5,7 +5,7 @@ use Rattle.base_language.specs.Language.Expression.{Grammar}
 use Rattle.matcher_engine.specs.BlockRuns.{IsOutcome, IsRefusal}
 use Rattle.matcher_engine.specs.declared.block.runs.BlockStop.{BlockStop}
 use Rattle.matcher_engine.specs.declared.block.runs.BlockStop.TheVariants as stop
-use Rattle.matcher_engine.specs.declared.matcher.Preorder.{Preorder}
+use Rattle.matcher_engine.specs.declared.matcher.ParseTree.{ParseTree}
 use Rattle.matcher_program.specs.Answers.{start_of}
 use Rattle.matcher_support.specs.Compiled.{IsRefusedBy, IsUnanswered}
 use Rattle.matcher_support.specs.Sets.{is_in_property}
@@ -23,7 +23,7 @@ module _ (g : Grammar) (rule text : List ℕ) (steps : ℕ) where
   refusal_unanswered stop.NoRule h = absurd h
   refusal_unanswered (stop.Flaw flaw) h = absurd h
 
-  pub outcome_refused : (r : Result Preorder BlockStop) → IsOutcome g (chars rule) (start_of text) is_in_property steps r → IfErr r (IsRefusedBy g rule text steps)
+  pub outcome_refused : (r : Result ParseTree BlockStop) → IsOutcome g (chars rule) (start_of text) is_in_property steps r → IfErr r (IsRefusedBy g rule text steps)
   outcome_refused (Ok it) h = tt
   outcome_refused (Err (stop.NoMatch place)) h = h
   outcome_refused (Err (stop.Stopped why)) h = h

@@ -51,10 +51,10 @@ later_stays : (vs : Trees) → later_after true vs ≡ true
 later_stays None' = refl
 later_stays (Tree s a b x y) = refl
 
-module _ (text : List ℕ) (row : Text → ℕ) where
+module _ (text : List ℕ) (rule : Text → ℕ) where
   -- a leaf, and a tree that holds others
   leaf_tree : (k depth : ℕ) (later : Bool) (r : Text) (i j : ℕ) (rest : List Visit)
-      → flat text later (visits row k depth (Tree r i j None' None') ++ rest)
+      → flat text later (visits rule k depth (Tree r i j None' None') ++ rest)
       ≡ comma_if later ++ (compact_text (tree_data text r i j no_items) ++ flat text true rest)
   leaf_tree k depth later r i j rest =
       let a : (suc k + 0 == k + 1) ≡ true = eq-eqb (suc k + 0) (k + 1) (omega arith) in
@@ -62,13 +62,13 @@ module _ (text : List ℕ) (row : Text → ℕ) where
       ∙ append_assoc (comma_if later) [] (compact_text (leaf_data (encode_utf8_all r) i j (part text i j)) ++ flat text true rest)
 
   inner_tree : (k depth : ℕ) (later : Bool) (r : Text) (i j : ℕ) (inner : Trees) (rest : List Visit) (d : Items) → (suc k + count_of inner == k + 1) ≡ false
-      → flat text false (visits row (suc k) (suc depth) inner ++ Leaves (visited row k depth r i j inner) ∷ rest)
-      ≡ body false d ++ flat text true (Leaves (visited row k depth r i j inner) ∷ rest)
-      → flat text later (visits row k depth (Tree r i j inner None') ++ rest)
+      → flat text false (visits rule (suc k) (suc depth) inner ++ Leaves (visited rule k depth r i j inner) ∷ rest)
+      ≡ body false d ++ flat text true (Leaves (visited rule k depth r i j inner) ∷ rest)
+      → flat text later (visits rule k depth (Tree r i j inner None') ++ rest)
       ≡ comma_if later ++ (compact_text (inner_data (encode_utf8_all r) i j d) ++ flat text true rest)
   inner_tree k depth later r i j inner rest d a ih =
-      let v = visited row k depth r i j inner in
-      let inside = visits row (suc k) (suc depth) inner in
+      let v = visited rule k depth r i j inner in
+      let inside = visits rule (suc k) (suc depth) inner in
       let own = drop 1 (compact_text (own_data (encode_utf8_all r) i j)) in
       let start = codes "{\"children\":[" in
       let end_ = codes "]," ++ own in
@@ -83,26 +83,26 @@ module _ (text : List ℕ) (row : Text → ℕ) where
       ∙ ap (λ t. t ++ after) (sym (inner_text (encode_utf8_all r) i j d))))))
 
   one_tree : (k depth : ℕ) (later : Bool) (r : Text) (i j : ℕ) (us : Trees) (rest : List Visit)
-      → ((tail : List Visit) → flat text false (visits row (suc k) (suc depth) us ++ tail) ≡ body false (trees_data text us) ++ flat text (later_after false us) tail)
-      → flat text later (visits row k depth (Tree r i j us None') ++ rest)
+      → ((tail : List Visit) → flat text false (visits rule (suc k) (suc depth) us ++ tail) ≡ body false (trees_data text us) ++ flat text (later_after false us) tail)
+      → flat text later (visits rule k depth (Tree r i j us None') ++ rest)
       ≡ comma_if later ++ (compact_text (tree_data text r i j (trees_data text us)) ++ flat text true rest)
   one_tree k depth later r i j None' rest ih = leaf_tree k depth later r i j rest
   one_tree k depth later r i j (Tree s a b x y) rest ih =
       let us = Tree s a b x y in
       let several : (suc k + count_of us == k + 1) ≡ false = ne_eqb (suc k + count_of us) (k + 1) (λ e. omega (arith, e)) in
-      inner_tree k depth later r i j us rest (trees_data text us) several (ih (Leaves (visited row k depth r i j us) ∷ rest))
+      inner_tree k depth later r i j us rest (trees_data text us) several (ih (Leaves (visited rule k depth r i j us) ∷ rest))
 
   -- trees
   flat_trees : (k depth : ℕ) (later : Bool) (us : Trees) (rest : List Visit)
-      → flat text later (visits row k depth us ++ rest) ≡ body later (trees_data text us) ++ flat text (later_after later us) rest
+      → flat text later (visits rule k depth us ++ rest) ≡ body later (trees_data text us) ++ flat text (later_after later us) rest
   flat_trees k depth later None' rest = refl
   flat_trees k depth later (Tree r i j inner others) rest =
       let next = suc k + count_of inner in
-      let v = visited row k depth r i j inner in
-      let inside = visits row (suc k) (suc depth) inner in
-      let behind = visits row next depth others in
+      let v = visited rule k depth r i j inner in
+      let inside = visits rule (suc k) (suc depth) inner in
+      let behind = visits rule next depth others in
       let d = compact_text (tree_data text r i j (trees_data text inner)) in
-      let e : flat text later (visits row k depth (Tree r i j inner others) ++ rest) ≡ flat text later (visits row k depth (Tree r i j inner None') ++ (behind ++ rest)) =
+      let e : flat text later (visits rule k depth (Tree r i j inner others) ++ rest) ≡ flat text later (visits rule k depth (Tree r i j inner None') ++ (behind ++ rest)) =
       ap (λ vs. piece text later (Enters v) ++ flat text false vs)
       (append_assoc inside (Leaves v ∷ behind) rest ∙ sym (append_assoc inside (Leaves v ∷ []) (behind ++ rest))) in
       e
@@ -112,10 +112,10 @@ module _ (text : List ℕ) (row : Text → ℕ) where
       ∙ sym (append_assoc (comma_if later) (d ++ body true (trees_data text others)) (flat text true rest)))))
 
   -- the whole walk
-  all_visits : (us : Trees) → flat text false (visits row 0 0 us) ≡ body false (trees_data text us)
-  all_visits us = ap (flat text false) (sym (append-nil (visits row 0 0 us))) ∙ (flat_trees 0 0 false us [] ∙ append-nil (body false (trees_data text us)))
+  all_visits : (us : Trees) → flat text false (visits rule 0 0 us) ≡ body false (trees_data text us)
+  all_visits us = ap (flat text false) (sym (append-nil (visits rule 0 0 us))) ∙ (flat_trees 0 0 false us [] ∙ append-nil (body false (trees_data text us)))
 
-  pub all_json : (json new : List ℕ) (end_ : ℕ) (us : Trees) (left : List Visit) → left ≡ visits row 0 0 us
+  pub all_json : (json new : List ℕ) (end_ : ℕ) (us : Trees) (left : List Visit) → left ≡ visits rule 0 0 us
       → json ≡ head end_ ++ flat text false left → new ≡ json ++ codes "]}"
       → new ≡ compact_text (answer_data text end_ us)
   all_json json new end_ us left e h k =

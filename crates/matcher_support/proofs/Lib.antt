@@ -19,4 +19,4 @@ pub mod CompiledNames
 pub mod LineNumbers
 pub mod CompiledRuns
 pub mod AttemptNumbers
-pub mod EachRow
+pub mod EachRule

@@ -6,13 +6,13 @@ use Rattle.matcher_code.specs.Reached.{count_of}
 use Rattle.matcher_engine.specs.Walks.{Leaves, Visit, visited, visits}
 use Rattle.matcher_support.specs.Lines.{flat, line, lines_of, piece}
 
-module _ (row : Text → ℕ) where
-  flat_trees : (k depth : ℕ) (us : Trees) (rest : List Visit) → flat (visits row k depth us ++ rest) ≡ lines_of depth us ++ flat rest
+module _ (rule : Text → ℕ) where
+  flat_trees : (k depth : ℕ) (us : Trees) (rest : List Visit) → flat (visits rule k depth us ++ rest) ≡ lines_of depth us ++ flat rest
   flat_trees k depth None' rest = refl
   flat_trees k depth (Tree r i j inner others) rest =
-      let v = visited row k depth r i j inner in
-      let inside = visits row (suc k) (suc depth) inner in
-      let behind = visits row (suc k + count_of inner) depth others in
+      let v = visited rule k depth r i j inner in
+      let inside = visits rule (suc k) (suc depth) inner in
+      let behind = visits rule (suc k + count_of inner) depth others in
       let front = line i j depth r in
       let z : suc depth ≡ depth + 1 = omega arith in
       ap (λ vs. front ++ flat vs) (append_assoc inside (Leaves v ∷ behind) rest)
@@ -22,8 +22,8 @@ module _ (row : Text → ℕ) where
       ∙ sym (append_assoc (front ++ lines_of (depth + 1) inner) (lines_of depth others) (flat rest))))
 
   -- the whole walk
-  pub all_lines : (us : Trees) → flat (visits row 0 0 us) ≡ lines_of 0 us
-  all_lines us = ap flat (sym (append-nil (visits row 0 0 us))) ∙ (flat_trees 0 0 us [] ∙ append-nil (lines_of 0 us))
+  pub all_lines : (us : Trees) → flat (visits rule 0 0 us) ≡ lines_of 0 us
+  all_lines us = ap flat (sym (append-nil (visits rule 0 0 us))) ∙ (flat_trees 0 0 us [] ∙ append-nil (lines_of 0 us))
 
 -- the lines so far and what is left are the whole: one visit more
 pub one_more : (whole lines new : List ℕ) (v : Visit) (old rest : List Visit) → old ≡ v ∷ rest → lines ++ flat old ≡ whole → new ≡ lines ++ piece v → new ++ flat rest ≡ whole

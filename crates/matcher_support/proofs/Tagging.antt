@@ -36,14 +36,14 @@ mutual
 
 -- what the walk over inner trees makes, for any trees and entries before them
 abbrev Inner : (Text → ℕ) → Trees → (n depth : ℕ) → Type 0
-Inner row inner n depth = (rest : List Visit) (ts : TaggedTrees) (es : List TagEntry) (open_trees : List (Option Text)) → IsOpen es
-    → with_visits (visits row n depth inner ++ rest) (record { entries = entries_onto ts es; open_trees = open_trees })
+Inner rule inner n depth = (rest : List Visit) (ts : TaggedTrees) (es : List TagEntry) (open_trees : List (Option Text)) → IsOpen es
+    → with_visits (visits rule n depth inner ++ rest) (record { entries = entries_onto ts es; open_trees = open_trees })
     ≡ with_visits rest (record { entries = entries_onto (spliced inner ts) es; open_trees = open_trees })
 
-module _ (row : Text → ℕ) where
+module _ (rule : Text → ℕ) where
   one_tree : (q : Option Text) (v : Visited) (m depth : ℕ) (inner : Trees) (after : List Visit) (ts : TaggedTrees) (es : List TagEntry)
-      (o : List (Option Text)) → IsOpen es → Inner row inner m depth
-      → with_visits (visits row m depth inner ++ (Leaves v ∷ after)) (with_start q v.rule v.node.start (record { entries = entries_onto ts es; open_trees = o }))
+      (o : List (Option Text)) → IsOpen es → Inner rule inner m depth
+      → with_visits (visits rule m depth inner ++ (Leaves v ∷ after)) (with_start q v.rule v.node.start (record { entries = entries_onto ts es; open_trees = o }))
       ≡ with_visits after (record { entries = entries_onto (with_next q v.rule v.node.start v.node.end (spliced inner) ts) es; open_trees = o })
   one_tree (Some t) v m depth inner after ts es o h f =
       f (Leaves v ∷ after) ts es (Some t ∷ o) h
@@ -53,20 +53,20 @@ module _ (row : Text → ℕ) where
       ∙ ap (λ z. with_visits after (record { entries = z; open_trees = o }))
       (sym (onto_followed ts (Token (v.rule, None) v.node.start v.node.end (spliced inner NoTokens) NoTokens) es))
 
-  tags_after : (us : Trees) (n depth : ℕ) → Inner row us n depth
+  tags_after : (us : Trees) (n depth : ℕ) → Inner rule us n depth
   tags_after None' n depth = λ rest ts es o h. refl
   tags_after (Tree r i j inner others) n depth = λ rest ts es o h.
-      let v = visited row n depth r i j inner in
-      let inside = visits row (suc n) (suc depth) inner in
-      let behind = visits row (suc n + count_of inner) depth others in
+      let v = visited rule n depth r i j inner in
+      let inside = visits rule (suc n) (suc depth) inner in
+      let behind = visits rule (suc n + count_of inner) depth others in
       ap (λ z. with_visits z (with_start (tag_in r) r i (record { entries = entries_onto ts es; open_trees = o }))) (append_assoc inside (Leaves v ∷ behind) rest)
       ∙ (one_tree (tag_in r) v (suc n) (suc depth) inner (behind ++ rest) ts es o h (tags_after inner (suc n) (suc depth))
       ∙ tags_after others (suc n + count_of inner) depth rest (with_next (tag_in r) r i j (spliced inner) ts) es o h)
 
-  pub tags_of : (us : Trees) → with_visits (visits row 0 0 us) (record { entries = []; open_trees = [] })
+  pub tags_of : (us : Trees) → with_visits (visits rule 0 0 us) (record { entries = []; open_trees = [] })
       ≡ record { entries = entries_onto (spliced us NoTokens) []; open_trees = [] }
   tags_of us =
-      ap (λ z. with_visits z (record { entries = []; open_trees = [] })) (sym (append-nil (visits row 0 0 us)))
+      ap (λ z. with_visits z (record { entries = []; open_trees = [] })) (sym (append-nil (visits rule 0 0 us)))
       ∙ tags_after us 0 0 [] NoTokens [] [] tt
 
 -- one visit more

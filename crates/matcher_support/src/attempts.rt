@@ -2,7 +2,7 @@
 ghost use Rattle.std.specs.Prelude.{◌≡◌, List, IfOk, OnOk, [], map};
 ghost use Rattle.base_language.specs.Language.Expression.{Grammar};
 ghost use Rattle.base_language.specs.Language.Text.{Text};
-ghost use Rattle.matcher_code.specs.Steps.{with_row, with_rows};
+ghost use Rattle.matcher_code.specs.Steps.{insert_rule, insert_rules};
 ghost use Rattle.matcher_compiler.specs.Names.{HaveNumbers, number_in};
 ghost use Rattle.matcher_engine.specs.Walks.{AreNamesOf};
 ghost use Rattle.matcher_program.specs.ExpectedNames.{each_once, name_texts};
@@ -49,33 +49,33 @@ pub(crate) fn name_attempts<'m>(
 fn each_name_of<'m>(
     alloc: Global,
     names: &'m [&'m str],
-    rows: &[u32],
+    rules: &[u32],
 ) -> Result<Vec<&'m str>, AllocError>
     ensures { IfOk result (λ found. (g : Grammar) → AreNamesOf g names.entry.now → (ns : List Text)
-        → rows.now ≡ map (number_in g) ns → HaveNumbers g ns → name_texts found.items ≡ each_once ns) }
+        → rules.now ≡ map (number_in g) ns → HaveNumbers g ns → name_texts found.items ≡ each_once ns) }
 {
-    let once = rows_once(alloc, rows)?;
+    let once = rules_once(alloc, rules)?;
     names_of(alloc, names, &once)
 }
 
-/// Returns rows in the order in which each comes first. The only error is an allocation failure.
-fn rows_once(alloc: Global, rows: &[u32]) -> Result<Vec<u32>, AllocError>
-    ensures { IfOk result (λ once. once.items ≡ with_rows [] rows.now) }
+/// Returns rules in the order in which each comes first. The only error is an allocation failure.
+fn rules_once(alloc: Global, rules: &[u32]) -> Result<Vec<u32>, AllocError>
+    ensures { IfOk result (λ once. once.items ≡ insert_rules [] rules.now) }
 {
     let mut once = Vec::new(alloc);
-    for row in rows {
-        add_row(&mut once, *row)?;
+    for rule in rules {
+        add_rule(&mut once, *rule)?;
     }
     Ok(once)
 }
 
-/// Adds a row, if it is not among these. The only error is an allocation failure.
-fn add_row(rows: &mut Vec<u32>, row: u32) -> Result<(), AllocError>
-    ensures { OnOk result (rows.new.items ≡ with_row rows.old.items row) }
+/// Adds a rule, if it is not among these. The only error is an allocation failure.
+fn add_rule(rules: &mut Vec<u32>, rule: u32) -> Result<(), AllocError>
+    ensures { OnOk result (rules.new.items ≡ insert_rule rules.old.items rule) }
 {
-    if rows.contains(&row) {
+    if rules.contains(&rule) {
         return Ok(());
     }
-    rows.push(row)?;
+    rules.push(rule)?;
     Ok(())
 }

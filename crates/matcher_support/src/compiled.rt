@@ -7,7 +7,7 @@ ghost use Rattle.base_language.specs.Language.State.{Classes, Outcome, State};
 ghost use Rattle.base_language.specs.Language.Text.{Text};
 ghost use Rattle.matcher_compiler.specs.Names.{HaveNumbers, number_in};
 ghost use Rattle.matcher_engine.specs.Limits.{IsAmple, steps_of, turns_of};
-ghost use Rattle.matcher_engine.specs.Preorders.{HasPreorder};
+ghost use Rattle.matcher_engine.specs.ParseTrees.{HasParseTree};
 ghost use Rattle.matcher_engine.specs.Walks.{AreNamesOf, visits, visits_left};
 ghost use Rattle.matcher_program.specs.Answers.{Has, start_of};
 ghost use Rattle.matcher_program.specs.ExpectedNames.{name_texts};
@@ -20,7 +20,7 @@ use matcher_code::state::OpenCall;
 use matcher_engine::block::{
     BlockStop, attempts_block, expected_block, paths_block, rule_count, rule_name, run_block,
 };
-use matcher_engine::matcher::Preorder;
+use matcher_engine::matcher::ParseTree;
 use matcher_engine::walk::{TreeWalk, text_name, walk_names};
 use matcher_program::answers::Stop;
 use matcher_program::texts::same;
@@ -91,9 +91,9 @@ impl<'b> CompiledGrammar<'b> {
         rule: &str,
         text: &str,
         limit: Option<u64>,
-    ) -> Result<Preorder, BlockStop>
+    ) -> Result<ParseTree, BlockStop>
         ensures matched { (g : Grammar) → IsCompiledOf g self.now
-            → IfOk result (HasPreorder g (chars rule.now) (start_of text.now) is_in_property) }
+            → IfOk result (HasParseTree g (chars rule.now) (start_of text.now) is_in_property) }
         ensures refused { (g : Grammar) → IsCompiledOf g self.now
             → IfErr result (IsRefusedBy g rule.now text.now (steps_of limit)) }
         ensures answered { (g : Grammar) → IsCompiledOf g self.now
@@ -134,7 +134,7 @@ impl<'b> CompiledGrammar<'b> {
         };
         let start = Span::of(text, 0, 0).start_pos();
         match expected_block(alloc, self.block, number, start, place, steps) {
-            Ok(rows) => match names_of(alloc, &self.names, &rows) {
+            Ok(rules) => match names_of(alloc, &self.names, &rules) {
                 Ok(names) => Ok(names),
                 Err(_) => Err(BlockStop::Stopped(Stop::Memory)),
             },
@@ -204,9 +204,9 @@ impl<'b> CompiledGrammar<'b> {
     }
 
     /// Begins a walk over the trees of a match that `match_text` has found.
-    pub fn walk<'m, 't>(&'m self, alloc: Global, found: &'t Preorder) -> TreeWalk<'m, 't>
+    pub fn walk<'m, 't>(&'m self, alloc: Global, found: &'t ParseTree) -> TreeWalk<'m, 't>
         ensures { (g : Grammar) → IsCompiledOf g self.entry.now → (n : Text) (s : State) (classes : Classes)
-            → (x : HasPreorder g n s classes found.entry.now)
+            → (x : HasParseTree g n s classes found.entry.now)
             → visits_left result ≡ visits (number_in g) 0 0 x.trees }
     {
         walk_names(alloc, &self.names, found)
@@ -252,14 +252,14 @@ fn last_number(names: &[&str], name: &str) -> Option<usize>
 pub(crate) fn names_of<'m>(
     alloc: Global,
     names: &'m [&'m str],
-    rows: &[u32],
+    rules: &[u32],
 ) -> Result<Vec<&'m str>, AllocError>
     ensures { IfOk result (λ found. (g : Grammar) → AreNamesOf g names.entry.now → (ns : List Text)
-        → rows.entry.now ≡ map (number_in g) ns → HaveNumbers g ns → name_texts found.items ≡ ns) }
+        → rules.entry.now ≡ map (number_in g) ns → HaveNumbers g ns → name_texts found.items ≡ ns) }
 {
-    let mut found = Vec::with_capacity(alloc, rows.len())?;
-    for row in rows {
-        found.push(text_name(names, *row))?;
+    let mut found = Vec::with_capacity(alloc, rules.len())?;
+    for rule in rules {
+        found.push(text_name(names, *rule))?;
     }
     Ok(found)
 }

@@ -24,8 +24,8 @@ pub fn tree_json(
     mut walk: TreeWalk<'_, '_>,
     end: usize,
 ) -> Result<String, AllocError>
-    ensures { IfOk result (λ json. (row : Text → ℕ) (trees : Trees)
-        → visits_left walk.entry ≡ visits row 0 0 trees
+    ensures { IfOk result (λ json. (rule : Text → ℕ) (trees : Trees)
+        → visits_left walk.entry ≡ visits rule 0 0 trees
         → string_bytes json ≡ compact_text (answer_data text.now end trees)) }
 {
     let mut json = String::new(alloc);

@@ -13,8 +13,8 @@ use std::alloc::{AllocError, Global};
 /// Returns one line for each tree of a walk, before the lines of its children: the start and the end in
 /// bytes, the depth, and the rule, separated by blanks. The only error is an allocation failure.
 pub fn tree_lines(alloc: Global, mut walk: TreeWalk<'_, '_>) -> Result<String, AllocError>
-    ensures { IfOk result (λ lines. (row : Text → ℕ) (trees : Trees)
-        → visits_left walk.entry ≡ visits row 0 0 trees → string_bytes lines ≡ lines_of 0 trees) }
+    ensures { IfOk result (λ lines. (rule : Text → ℕ) (trees : Trees)
+        → visits_left walk.entry ≡ visits rule 0 0 trees → string_bytes lines ≡ lines_of 0 trees) }
 {
     let mut lines = String::new(alloc);
     'visits: while let Some(visit) = walk.next_visit()? {

@@ -21,8 +21,8 @@ pub fn tree_text(
     text: &str,
     mut walk: TreeWalk<'_, '_>,
 ) -> Result<String, AllocError>
-    ensures { IfOk result (λ lines. (row : Text → ℕ) (trees : Trees)
-        → visits_left walk.entry ≡ visits row 0 0 trees → string_bytes lines ≡ shown text.now 0 trees) }
+    ensures { IfOk result (λ lines. (rule : Text → ℕ) (trees : Trees)
+        → visits_left walk.entry ≡ visits rule 0 0 trees → string_bytes lines ≡ shown text.now 0 trees) }
 {
     let mut lines = String::new(alloc);
     let mut level = 0;

@@ -2,7 +2,7 @@
 use Rattle.std.specs.Prelude.{List, ℕ, All, String, chars, length, string_bytes, ⊤}
 use Rattle.std.specs.Global.{Global}
 use Rattle.base_language.specs.Language.Expression.{Grammar}
-use Rattle.matcher_engine.specs.Preorders.{HasEnd}
+use Rattle.matcher_engine.specs.ParseTrees.{HasEnd}
 use Rattle.matcher_program.specs.Answers.{start_of}
 use Rattle.matcher_support.specs.Sets.{is_in_property}
 use Rattle.pest_example.specs.declared.examples.ExampleSearch.{ExampleSearch}

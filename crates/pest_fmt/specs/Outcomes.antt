@@ -6,7 +6,7 @@ use Rattle.base_language.specs.declared.runtime.faults.Fault.TheVariants.{Gramma
 use Rattle.format_grammar.specs.Formatting.{AreTokens, IsFormatted}
 use Rattle.format_grammar.specs.declared.LineEnds.{LineEnds}
 use Rattle.front_syntax.specs.Parses.{ParseRefuses}
-use Rattle.front_syntax.specs.declared.entries.Entry.{Entry}
+use Rattle.front_syntax.specs.declared.events.TokenEvent.{TokenEvent}
 use Rattle.pest_fmt.specs.declared.outcomes.FileChange.{FileChange}
 use Rattle.pest_fmt.specs.declared.outcomes.FileChange.TheVariants as is
 
@@ -16,4 +16,4 @@ IsFileChange line_ends text is.Same = IsFormatted line_ends text text
 IsFileChange line_ends text (is.Changed formatted) =
     IsFormatted line_ends text (string_bytes formatted) × (string_bytes formatted ≢ text)
 IsFileChange line_ends text (is.Refused errors) = ParseRefuses grammar_rules text (Grammar errors)
-IsFileChange line_ends text is.LeftAlone = (entries : List Entry) × AreTokens text entries
+IsFileChange line_ends text is.LeftAlone = (events : List TokenEvent) × AreTokens text events

@@ -4,12 +4,12 @@ use Rattle.matcher_code.specs.declared.state.TreeNode.{TreeNode}
 use Rattle.matcher_engine.specs.declared.block.head.BlockFlaw.TheVariants as flaw
 use Rattle.matcher_engine.specs.declared.block.runs.BlockStop.{BlockStop}
 use Rattle.matcher_engine.specs.declared.block.runs.BlockStop.TheVariants as stop
-use Rattle.matcher_engine.specs.declared.matcher.Preorder.{Preorder}
+use Rattle.matcher_engine.specs.declared.matcher.ParseTree.{ParseTree}
 use Rattle.matcher_program.specs.declared.answers.Stop.TheVariants as limit
 use Rattle.pest_meta_c.specs.Compiled.{Tells}
 
 -- status 8 is that of a run that was stopped by its limit
-pub stopped_by_limit : (outcome : Result Preorder BlockStop) (nodes : List TreeNode) (end status : ℕ) → Tells outcome nodes end status → status ≡ 8
+pub stopped_by_limit : (outcome : Result ParseTree BlockStop) (nodes : List TreeNode) (end status : ℕ) → Tells outcome nodes end status → status ≡ 8
     → outcome ≡ Err (stop.Stopped limit.OutOfSteps)
 stopped_by_limit (Ok it) nodes end status h e = absurd (omega (arith, h.0, e))
 stopped_by_limit (Err (stop.NoMatch place)) nodes end status h e = absurd (omega (arith, h.0, e))

@@ -29,9 +29,9 @@ use Rattle.front_reader.specs.Flaws.{first_flaw}
 use Rattle.front_reader.specs.Reading.{ReadsRules}
 use Rattle.front_restorer.specs.Agreeing.{AgreesLoosely, WrappersSuffice}
 use Rattle.front_stack_loops.specs.Certain.{AreReports}
-use Rattle.front_syntax.specs.Entries as entries
+use Rattle.front_syntax.specs.TokenEvents as events
 use Rattle.front_syntax.specs.Parses.{AreTokensOf}
-use Rattle.front_syntax.specs.declared.entries.Entry.{Entry}
+use Rattle.front_syntax.specs.declared.events.TokenEvent.{TokenEvent}
 use Rattle.pest_meta.specs.Promises.{AreBuiltinsOf, EndsFromEverywhere, HasOutcomesOf, IsWellFormedGrammar, OfRead, OfSpelled}
 use Rattle.pest_meta.specs.Spelling.{AreAccepted, HasRefusal, HasTrees, IsAnswer, SpellsGrammar, complaints_in}
 
@@ -39,18 +39,18 @@ use Rattle.pest_meta.specs.Spelling.{AreAccepted, HasRefusal, HasTrees, IsAnswer
 pub record AreTokens (text name json : List ℕ) : Type 0 where
   pub rule : Rule
   pub named : name_of rule ≡ name
-  pub tokens : List Entry
+  pub tokens : List TokenEvent
   pub given : AreTokensOf rule text tokens
-  pub whole : entries.IsWhole 0 (entries.named_entries tokens)
+  pub whole : events.IsWhole 0 (events.named_events tokens)
   pub written : json ≡ compact_text (tokens_data tokens)
 
 -- the numbers are the tokens of a text for the rule of that name
 pub record AreTokenNumbers (text name numbers : List ℕ) : Type 0 where
   pub rule : Rule
   pub named : name_of rule ≡ name
-  pub tokens : List Entry
+  pub tokens : List TokenEvent
   pub given : AreTokensOf rule text tokens
-  pub whole : entries.IsWhole 0 (entries.named_entries tokens)
+  pub whole : events.IsWhole 0 (events.named_events tokens)
   pub written : numbers ≡ token_numbers tokens
 
 -- the bytes are the builtins that a grammar uses: its names are in order, and these are those that it calls

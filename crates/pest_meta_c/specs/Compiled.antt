@@ -15,7 +15,7 @@ use Rattle.matcher_engine.specs.declared.attempts.Attempts.{Attempts}
 use Rattle.matcher_engine.specs.declared.block.head.BlockFlaw.TheVariants as flaw
 use Rattle.matcher_engine.specs.declared.block.runs.BlockStop.{BlockStop}
 use Rattle.matcher_engine.specs.declared.block.runs.BlockStop.TheVariants as stop
-use Rattle.matcher_engine.specs.declared.matcher.Preorder.{Preorder}
+use Rattle.matcher_engine.specs.declared.matcher.ParseTree.{ParseTree}
 use Rattle.matcher_program.specs.Refusals.{IsReason}
 use Rattle.matcher_program.specs.declared.answers.Stop.TheVariants as limit
 use Rattle.matcher_program.specs.declared.compile.Unfit.{Unfit}
@@ -45,7 +45,7 @@ status_of (stop.Flaw flaw.OtherVersion) = 11
 status_of (stop.Flaw flaw.Changed) = 12
 
 -- nodes, a position and a status report an outcome
-abbrev pub Tells : Result Preorder BlockStop → List TreeNode → ℕ → ℕ → Type 0
+abbrev pub Tells : Result ParseTree BlockStop → List TreeNode → ℕ → ℕ → Type 0
 Tells (Ok it) nodes end status = (status ≡ 0) × (nodes ≡ it.trees.items) × (end ≡ it.end)
 Tells (Err (stop.NoMatch place)) nodes end status = (status ≡ 1) × (end ≡ place)
 Tells (Err why) nodes end status = status ≡ status_of why
@@ -57,16 +57,16 @@ limit_in steps = if nat_eq steps (2 ^ 64 - 1) then None else Some steps
 -- they report the outcome of the rule of a number from a place of a text
 pub record IsTold (block : List ℕ) (rule : ℕ) (text : List ℕ) (from steps : ℕ) (nodes : List TreeNode)
     (end status : ℕ) : Type 0 where
-  pub outcome : Result Preorder BlockStop
+  pub outcome : Result ParseTree BlockStop
   pub told : Tells outcome nodes end status
   pub is : (g : Grammar) (classes : Classes) → IsBlockOf g classes block → (n : Text)
       → last_place g n ≡ Some rule → IsOutcome g n (state_from text from) classes steps outcome
 
 -- the numbers of the rules that are expected at a place
 abbrev pub AreTold : (block : List ℕ) (rule : ℕ) (text : List ℕ) (from place steps : ℕ) → List ℕ → Type 0
-AreTold block rule text from place steps rows = (g : Grammar) (classes : Classes) → IsBlockOf g classes block
+AreTold block rule text from place steps rules = (g : Grammar) (classes : Classes) → IsBlockOf g classes block
     → (n : Text) → last_place g n ≡ Some rule
-    → AreExpected g n (state_from text from) classes steps place rows
+    → AreExpected g n (state_from text from) classes steps place rules
 
 -- the calls that are open where those rules are expected, path by path
 pub record ArePathsTold (block : List ℕ) (rule : ℕ) (text : List ℕ) (from place steps : ℕ)

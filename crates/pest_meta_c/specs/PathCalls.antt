@@ -5,7 +5,7 @@ use Rattle.pest_meta_c.specs.declared.paths.PathCall.{PathCall}
 
 -- a call of the path of a number
 abbrev pub with_path : ℕ → OpenCall → PathCall
-with_path k c = record { path = k; row = c.row; start = c.start }
+with_path k c = record { path = k; rule = c.rule; start = c.start }
 
 -- the calls of paths, path by path, the first of which has a number
 abbrev pub calls_in : ℕ → List (List OpenCall) → List PathCall

@@ -38,7 +38,7 @@ pub(crate) fn tokens(alloc: Global, text: &str, name: &str) -> Outcome
         return Err(json_refusal(alloc, RefusalLocation::Whole, RefusalReason::UnknownRule));
     };
     match PestParser::tokens(alloc, rule, text) {
-        Ok(entries) => to_outcome(tokens_text(alloc, &entries)),
+        Ok(events) => to_outcome(tokens_text(alloc, &events)),
         Err(fault) => Err(to_refusal(alloc, rule, text, fault)),
     }
 }
@@ -60,7 +60,7 @@ fn numbers_of(alloc: Global, text: &str, rule: Rule) -> NumbersOutcome
     ensures refused { IfErr result (RefusesNumbers (DoesNotMatch rule text.now)) }
 {
     match PestParser::tokens(alloc, rule, text) {
-        Ok(entries) => match tokens_numbers(alloc, &entries) {
+        Ok(events) => match tokens_numbers(alloc, &events) {
             Ok(numbers) => Ok(numbers),
             Err(_) => Err(NumbersError::Memory),
         },

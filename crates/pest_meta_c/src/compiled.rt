@@ -29,7 +29,7 @@ use matcher_engine::block::{
     BlockFlaw, BlockStop, attempts_block, check_block, compile_block, expected_block, paths_block,
     run_block,
 };
-use matcher_engine::matcher::Preorder;
+use matcher_engine::matcher::ParseTree;
 use matcher_program::answers::Stop;
 use matcher_program::compile::Unfit;
 use matcher_support::unicode_properties::UnicodeProperties;
@@ -119,7 +119,7 @@ fn stop_status(stop: BlockStop) -> u8
 
 /// Hands out the nodes of a match, and its end, or reports why there is none.
 fn tell_match<'a>(
-    outcome: Result<Preorder, BlockStop>,
+    outcome: Result<ParseTree, BlockStop>,
     nodes: &mut &'a [TreeNode],
     end: &mut usize,
 ) -> u8
@@ -130,7 +130,7 @@ fn tell_match<'a>(
 {
     match outcome {
         Ok(found) => {
-            let Preorder {
+            let ParseTree {
                 trees,
                 end: place,
                 ..
@@ -323,20 +323,20 @@ pub extern "C" fn pest_meta_expected<'a>(
     from: usize,
     place: usize,
     steps: u64,
-    rows: &mut &'a [u32],
+    rules: &mut &'a [u32],
 ) -> u8
-    ensures expected { result ≡ 0 → AreTold block.now rule text.now from place steps rows.new.now }
+    ensures expected { result ≡ 0 → AreTold block.now rule text.now from place steps rules.new.now }
     ensures refused { result ≢ 0 → result ≢ 3 → IsRefusalTold block.now rule text.now from steps result }
     ensures start { result ≢ 3 → HasStart text.now from }
     ensures no_start { result ≡ 3 → HasStart text.now from → ⊥ }
-    ensures unchanged { result ≢ 0 → rows.new ≡ rows.old }
+    ensures unchanged { result ≢ 0 → rules.new ≡ rules.old }
 {
     let Some(start) = start_in(text, from) else {
         return NO_TEXT;
     };
     match expected_block(alloc, block, rule, start, place, steps) {
         Ok(numbers) => {
-            *rows = hand_out(numbers);
+            *rules = hand_out(numbers);
             ANSWERED
         }
         Err(stop) => stop_status(stop),

@@ -11,7 +11,7 @@ use std::alloc::{AllocError, Global};
 #[derive(Clone, Copy, Debug)]
 pub struct PathCall {
     pub path: usize,
-    pub row: usize,
+    pub rule: usize,
     pub start: usize,
 }
 
@@ -22,7 +22,7 @@ fn push_path(list: &mut Vec<PathCall>, path: usize, calls: &[OpenCall]) -> Resul
     for call in calls {
         list.push(PathCall {
             path,
-            row: call.row as usize,
+            rule: call.rule as usize,
             start: call.start,
         })?;
     }

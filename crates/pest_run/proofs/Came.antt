@@ -27,14 +27,14 @@ use Rattle.matcher_program.specs.Refusals.{IsReason}
 use Rattle.matcher_program.specs.declared.compile.Unfit.{Unfit}
 use Rattle.matcher_program.specs.declared.compile.Unfit.TheVariants as no
 use Rattle.matcher_engine.specs.BlockRuns.{IsStopped}
-use Rattle.matcher_engine.specs.Preorders.{HasEnd, HasPreorder}
+use Rattle.matcher_engine.specs.ParseTrees.{HasEnd, HasParseTree}
 use Rattle.matcher_engine.specs.Limits.{steps_of}
 use Rattle.pest_run.specs.Steps.{match_limit, step_limit}
 use Rattle.matcher_engine.specs.Reasons as longer
 use Rattle.matcher_engine.specs.Reasons.{IsLonger}
 use Rattle.matcher_engine.specs.declared.block.runs.BlockStop.{BlockStop}
 use Rattle.matcher_engine.specs.declared.block.runs.BlockStop.TheVariants as block
-use Rattle.matcher_engine.specs.declared.matcher.Preorder.{Preorder}
+use Rattle.matcher_engine.specs.declared.matcher.ParseTree.{ParseTree}
 use Rattle.matcher_program.specs.Answers.{Has, start_of}
 use Rattle.matcher_program.specs.declared.answers.Stop.{Stop}
 use Rattle.matcher_program.specs.declared.answers.Stop.TheVariants as stop
@@ -204,7 +204,7 @@ same_note format_is.Json text end_ place ns ms h = refl
 same_note format_is.Lines text end_ place ns ms h = refl
 
 -- what is told of a match is told of what the rule gives
-module _ (g : Grammar) (rule name text : List ℕ) (format : Format) (limit : Limits) (it : Preorder) (found : HasPreorder g (chars rule) (start_of text) is_in_property it) where
+module _ (g : Grammar) (rule name text : List ℕ) (format : Format) (limit : Limits) (it : ParseTree) (found : HasParseTree g (chars rule) (start_of text) is_in_property it) where
   -- if the note on it has these names
   noted : (names : List Text) (note : Option (List ℕ)) → names ≡ each_once (expected found.found)
       → note ≡ end_note format text it.end it.furthest names → IsNoted g rule text format limit.names note
@@ -283,12 +283,12 @@ end_at_character g n text end_ utf8 x =
     let here : IsCharBoundary text x.state.position = on_bytes text utf8 x.state.position (record { front = inside.front; back = x.state.rest; split = inside.split; size = inside.size }) in
     subst (λ n. IsCharBoundary text n) (sym x.ends) here
 
-pub ends_at_character : (g : Grammar) (n : Text) (text : List ℕ) (it : Preorder) → IsUtf8 text → HasPreorder g n (start_of text) is_in_property it
+pub ends_at_character : (g : Grammar) (n : Text) (text : List ℕ) (it : ParseTree) → IsUtf8 text → HasParseTree g n (start_of text) is_in_property it
     → IsCharBoundary text it.end
 ends_at_character g n text it utf8 x =
     end_at_character g n text it.end utf8 (record { state = x.state; trees = x.trees; found = x.found; ends = x.ends })
 
-pub stops_at_character : (g : Grammar) (n : Text) (text : List ℕ) (it : Preorder) → IsUtf8 text → HasPreorder g n (start_of text) is_in_property it
+pub stops_at_character : (g : Grammar) (n : Text) (text : List ℕ) (it : ParseTree) → IsUtf8 text → HasParseTree g n (start_of text) is_in_property it
     → IsCharBoundary text it.furthest
 stops_at_character g n text it utf8 x = stands_here g n text it.furthest x.found utf8 x.place
 

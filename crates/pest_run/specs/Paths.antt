@@ -18,12 +18,12 @@ use Rattle.serde_json.specs.Written.{compact_text}
 
 -- the name of a rule by its number
 abbrev pub rule_text : List Text → ℕ → List ℕ
-rule_text names row = encode_utf8_all (name_in names row)
+rule_text names rule = encode_utf8_all (name_in names rule)
 
 -- a call, the line and the column where it begins, and a sign that the next one is within it
 abbrev pub call_text : List ℕ → List Text → OpenCall → List ℕ
 call_text text names c =
-    rule_text names c.row ++ codes " " ++ place_text (line_column text c.start) ++ codes " > "
+    rule_text names c.rule ++ codes " " ++ place_text (line_column text c.start) ++ codes " > "
 
 -- calls, the outermost first
 abbrev pub calls_text : List ℕ → List Text → List OpenCall → List ℕ
@@ -41,10 +41,10 @@ abbrev pub outer : List OpenCall → List OpenCall
 outer p = take (length p - 1) p
 
 -- the number of the expected rule
-abbrev pub expected_row : List OpenCall → ℕ
-expected_row [] = 0
-expected_row (c ∷ []) = c.row
-expected_row (c ∷ d ∷ p) = expected_row (d ∷ p)
+abbrev pub expected_rule : List OpenCall → ℕ
+expected_rule [] = 0
+expected_rule (c ∷ []) = c.rule
+expected_rule (c ∷ d ∷ p) = expected_rule (d ∷ p)
 
 -- whether these calls are those around the path before
 abbrev pub is_within : Option (List OpenCall) → List OpenCall → Bool
@@ -54,15 +54,15 @@ is_within (Some before) open_calls = is_same before open_calls
 -- a rule that is expected within some calls: on a line of its own with the calls, but after a comma if
 -- the calls are those of the path before
 abbrev pub path_text : List ℕ → List Text → Option (List OpenCall) → List OpenCall → ℕ → List ℕ
-path_text text names before open_calls row =
+path_text text names before open_calls rule =
     (if is_within before open_calls then codes ", " else codes "\n  " ++ open_text text names open_calls)
-    ++ rule_text names row
+    ++ rule_text names rule
 
 -- paths after one within such calls
 abbrev pub paths_text : List ℕ → List Text → Option (List OpenCall) → List (Vec OpenCall) → List ℕ
 paths_text text names before [] = []
 paths_text text names before (p ∷ ps) =
-    path_text text names before (outer p.items) (expected_row p.items)
+    path_text text names before (outer p.items) (expected_rule p.items)
     ++ paths_text text names (Some (outer p.items)) ps
 
 -- how many paths are left out
@@ -80,7 +80,7 @@ paths_lines text names place paths =
 -- a call, a path, and all paths to a place as data of JSON
 abbrev pub call_data : List Text → OpenCall → Data
 call_data names c = object
-    (member (codes "rule") (string (rule_text names c.row))
+    (member (codes "rule") (string (rule_text names c.rule))
     (member (codes "start") (number (unsigned c.start)) no_members))
 
 abbrev pub path_data : List Text → List OpenCall → Data

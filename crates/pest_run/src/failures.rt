@@ -10,7 +10,7 @@ ghost use Rattle.pest_run.specs.Outcomes.{tells_expected};
 use crate::arguments::Format;
 use crate::messages::is_more;
 use matcher_engine::block::BlockStop;
-use matcher_engine::matcher::Preorder;
+use matcher_engine::matcher::ParseTree;
 use matcher_support::attempts::NamedAttempts;
 use matcher_support::compiled::CompiledGrammar;
 use std::alloc::Global;
@@ -84,7 +84,7 @@ pub fn names_after<'a>(
     rules: &'a CompiledGrammar<'a>,
     rule: &'a str,
     text: &'a str,
-    found: &Preorder,
+    found: &ParseTree,
     format: Format,
     steps: u64,
 ) -> Result<Vec<&'a str>, BlockStop>

@@ -4,7 +4,7 @@ ghost use Rattle.std.specs.Option.{is_some};
 ghost use Rattle.base_language.specs.Language.Expression.{Grammar};
 ghost use Rattle.base_language.specs.Language.State.{Outcome};
 ghost use Rattle.matcher_engine.specs.Limits.{IsAmple, turns_of};
-ghost use Rattle.matcher_engine.specs.Preorders.{HasPreorder};
+ghost use Rattle.matcher_engine.specs.ParseTrees.{HasParseTree};
 ghost use Rattle.matcher_program.specs.Answers.{Has, start_of};
 ghost use Rattle.matcher_support.specs.Compiled.{IsCompiledOf, IsRefusedBy, operations_of};
 ghost use Rattle.matcher_support.specs.Sets.{is_in_property};
@@ -12,7 +12,7 @@ ghost use Rattle.pest_run.specs.Steps.{match_limit, step_limit};
 
 use crate::arguments::step_limit;
 use matcher_engine::block::BlockStop;
-use matcher_engine::matcher::Preorder;
+use matcher_engine::matcher::ParseTree;
 use matcher_program::answers::Stop;
 use matcher_support::compiled::CompiledGrammar;
 use std::alloc::Global;
@@ -26,9 +26,9 @@ pub fn match_rule(
     text: &str,
     limit: Option<u64>,
     user: Option<&str>,
-) -> Result<Preorder, BlockStop>
+) -> Result<ParseTree, BlockStop>
     ensures matched { (g : Grammar) → IsCompiledOf g rules.now
-        → IfOk result (HasPreorder g (chars rule.now) (start_of text.now) is_in_property) }
+        → IfOk result (HasParseTree g (chars rule.now) (start_of text.now) is_in_property) }
     ensures refused { (g : Grammar) → IsCompiledOf g rules.now
         → IfErr result (IsRefusedBy g rule.now text.now (step_limit limit (length text.now))) }
     ensures answered { (g : Grammar) → IsCompiledOf g rules.now

@@ -5,7 +5,7 @@ ghost use Rattle.base_ast.specs.declared.optimized.OptimizedRule.{OptimizedRule}
 ghost use Rattle.base_language.specs.Language.Expression.{Grammar};
 ghost use Rattle.base_language.specs.Language.State.{Trees};
 ghost use Rattle.base_language.specs.Language.Text.{Text};
-ghost use Rattle.matcher_engine.specs.Preorders.{HasPreorder};
+ghost use Rattle.matcher_engine.specs.ParseTrees.{HasParseTree};
 ghost use Rattle.matcher_engine.specs.Walks.{AreNamesOf, visits, visits_left};
 ghost use Rattle.matcher_program.specs.Answers.{start_of};
 ghost use Rattle.matcher_program.specs.ExpectedNames.{name_texts};
@@ -28,7 +28,7 @@ use crate::messages::{
 use crate::stack_rules::find_stack_rule;
 use base_language::runtime::{Error, ErrorVariant, Fault, Position};
 use matcher_engine::block::{BlockStop, compile_block};
-use matcher_engine::matcher::Preorder;
+use matcher_engine::matcher::ParseTree;
 use matcher_engine::walk::TreeWalk;
 use matcher_program::answers::Stop;
 use matcher_program::compile::Unfit;
@@ -161,12 +161,12 @@ fn match_outcome(
     rules: &CompiledGrammar<'_>,
     rule: &str,
     text: &str,
-    found: &Preorder,
+    found: &ParseTree,
     format: Format,
     limits: Limits,
 ) -> Option<Outcome>
     ensures { (g : Grammar) → IsCompiledOf g rules.now → (name : List ℕ)
-        → HasPreorder g (chars rule.now) (start_of text.now) is_in_property found.now
+        → HasParseTree g (chars rule.now) (start_of text.now) is_in_property found.now
         → IsSomeAnd result (IsOutcome g rule.now name text.now format limits) }
 {
     if !text.is_char_boundary(found.end) || !text.is_char_boundary(found.furthest) {
@@ -244,13 +244,13 @@ fn shown_outcome(
     alloc: Global,
     text: &str,
     walk: TreeWalk<'_, '_>,
-    found: &Preorder,
+    found: &ParseTree,
     names: &[&str],
     format: Format,
 ) -> Outcome
     requires end { IsCharBoundary text.now found.now.end }
     requires place { IsCharBoundary text.now found.now.furthest }
-    ensures { (row : Text → ℕ) (trees : Trees) → visits_left walk.entry ≡ visits row 0 0 trees
+    ensures { (rule : Text → ℕ) (trees : Trees) → visits_left walk.entry ≡ visits rule 0 0 trees
         → IsMatchReport text.now format found.now.end found.now.furthest (name_texts names.now) trees result }
 {
     match lines_of(alloc, text, walk, found.end, format) {
@@ -269,13 +269,13 @@ fn unnamed_match(
     alloc: Global,
     text: &str,
     walk: TreeWalk<'_, '_>,
-    found: &Preorder,
+    found: &ParseTree,
     format: Format,
     steps: u64,
 ) -> Outcome
     requires end { IsCharBoundary text.now found.now.end }
     requires place { IsCharBoundary text.now found.now.furthest }
-    ensures { (row : Text → ℕ) (trees : Trees) → visits_left walk.entry ≡ visits row 0 0 trees
+    ensures { (rule : Text → ℕ) (trees : Trees) → visits_left walk.entry ≡ visits rule 0 0 trees
         → IsUnnamedMatchReport text.now format found.now.end found.now.furthest steps trees result }
 {
     match lines_of(alloc, text, walk, found.end, format) {
@@ -295,7 +295,7 @@ fn unnamed_match(
 fn note_of(
     alloc: Global,
     text: &str,
-    found: &Preorder,
+    found: &ParseTree,
     names: &[&str],
     format: Format,
 ) -> Result<Option<String>, AllocError>
@@ -339,8 +339,8 @@ fn lines_of(
     end: usize,
     format: Format,
 ) -> Result<String, AllocError>
-    ensures { IfOk result (λ lines. (row : Text → ℕ) (trees : Trees)
-        → visits_left walk.entry ≡ visits row 0 0 trees
+    ensures { IfOk result (λ lines. (rule : Text → ℕ) (trees : Trees)
+        → visits_left walk.entry ≡ visits rule 0 0 trees
         → string_bytes lines ≡ trees_text format text.now end trees) }
 {
     match format {
@@ -353,8 +353,8 @@ fn lines_of(
 /// Returns trees as lines of text, with escapes of hidden characters. The only error is an allocation
 /// failure.
 fn shown_lines(alloc: Global, text: &str, walk: TreeWalk<'_, '_>) -> Result<String, AllocError>
-    ensures { IfOk result (λ lines. (row : Text → ℕ) (trees : Trees)
-        → visits_left walk.entry ≡ visits row 0 0 trees
+    ensures { IfOk result (λ lines. (rule : Text → ℕ) (trees : Trees)
+        → visits_left walk.entry ≡ visits rule 0 0 trees
         → string_bytes lines ≡ escaped_lines (shown text.now 0 trees)) }
 {
     let lines = tree_text(alloc, text, walk)?;
@@ -368,8 +368,8 @@ fn json_line(
     walk: TreeWalk<'_, '_>,
     end: usize,
 ) -> Result<String, AllocError>
-    ensures { IfOk result (λ line. (row : Text → ℕ) (trees : Trees)
-        → visits_left walk.entry ≡ visits row 0 0 trees
+    ensures { IfOk result (λ line. (rule : Text → ℕ) (trees : Trees)
+        → visits_left walk.entry ≡ visits rule 0 0 trees
         → string_bytes line ≡ trees_text Format.Json text.now end trees) }
 {
     let json = tree_json(alloc, text, walk, end)?;

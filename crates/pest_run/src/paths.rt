@@ -144,8 +144,8 @@ fn write_paths(
     let mut rest = paths;
     while let Some((path, others)) = rest.split_first() {
         let calls = outer_calls(path);
-        let row = expected_row(path);
-        write_path(alloc, lines, text, names, before, calls, row)?;
+        let rule = expected_rule(path);
+        write_path(alloc, lines, text, names, before, calls, rule)?;
         before = Some(calls);
         rest = others;
     }
@@ -163,11 +163,11 @@ fn outer_calls(path: &[OpenCall]) -> &[OpenCall]
 }
 
 /// Returns the number of the rule that is expected at the end of a path.
-fn expected_row(path: &[OpenCall]) -> u32
-    ensures { result ≡ spec.expected_row path.now }
+fn expected_rule(path: &[OpenCall]) -> u32
+    ensures { result ≡ spec.expected_rule path.now }
 {
     match path.split_last() {
-        Some((call, _)) => call.row,
+        Some((call, _)) => call.rule,
         None => 0,
     }
 }
@@ -191,10 +191,10 @@ fn write_path(
     names: &[&str],
     before: Option<&[OpenCall]>,
     calls: &[OpenCall],
-    row: u32,
+    rule: u32,
 ) -> Result<(), AllocError>
     ensures { OnOk result (string_bytes lines.new ≡ string_bytes lines.old
-        ++ spec.path_text text.now (name_texts names.now) (option_copied before.entry) calls.now row) }
+        ++ spec.path_text text.now (name_texts names.now) (option_copied before.entry) calls.now rule) }
 {
     if is_within(before, calls) {
         lines.push_str(", ")?;
@@ -202,7 +202,7 @@ fn write_path(
         lines.push_str("\n  ")?;
         write_open(alloc, lines, text, names, calls)?;
     }
-    write_rule(lines, names, row)
+    write_rule(lines, names, rule)
 }
 
 /// Writes calls; of more than 16 the first 4, the number of those left out, and the last 12.
@@ -267,25 +267,25 @@ fn write_call(
         return Err(AllocError);
     };
     let place = show_place(alloc, start.line_col())?;
-    write_rule(lines, names, call.row)?;
+    write_rule(lines, names, call.rule)?;
     lines.push_str(" ")?;
     lines.push_str(place.as_str())?;
     lines.push_str(" > ")
 }
 
 /// Writes the name of the rule of a number.
-fn write_rule(lines: &mut String, names: &[&str], row: u32) -> Result<(), AllocError>
+fn write_rule(lines: &mut String, names: &[&str], rule: u32) -> Result<(), AllocError>
     ensures { OnOk result (string_bytes lines.new
-        ≡ string_bytes lines.old ++ spec.rule_text (name_texts names.now) row) }
+        ≡ string_bytes lines.old ++ spec.rule_text (name_texts names.now) rule) }
 {
-    lines.push_str(name_of(names, row))
+    lines.push_str(name_of(names, rule))
 }
 
 /// Returns the name of the rule of a number.
-fn name_of<'a>(names: &'a [&'a str], row: u32) -> &'a str
-    ensures { result.now ≡ spec.rule_text (name_texts names.entry.now) row }
+fn name_of<'a>(names: &'a [&'a str], rule: u32) -> &'a str
+    ensures { result.now ≡ spec.rule_text (name_texts names.entry.now) rule }
 {
-    text_name(names, row)
+    text_name(names, rule)
 }
 
 /// Returns all paths to a place in a line of JSON.
@@ -362,6 +362,6 @@ fn path_value(alloc: Global, names: &[&str], path: &[OpenCall]) -> Result<Value,
 fn call_value(alloc: Global, names: &[&str], call: OpenCall) -> Result<Value, AllocError>
     ensures { IfOk result (λ value. view value ≡ spec.call_data (name_texts names.now) call) }
 {
-    let rule = name_of(names, call.row);
+    let rule = name_of(names, call.rule);
     json!(in alloc; { "rule": rule, "start": call.start })
 }

@@ -99,12 +99,12 @@ impl Search {
         match op {
             Op::Call {
                 to,
-                row,
+                rule,
                 next,
                 fail,
                 ..
             } => {
-                self.reach(to, row)?;
+                self.reach(to, rule)?;
                 self.reach_both(next, fail, rule)
             }
             Op::Sub { to, next, fail } => {
@@ -117,7 +117,7 @@ impl Search {
             | Op::Text { next, fail, .. }
             | Op::AnyCase { next, fail, .. }
             | Op::Nested { next, fail, .. }
-            | Op::Gap {
+            | Op::Trivia {
                 next,
                 slow: fail,
                 ..

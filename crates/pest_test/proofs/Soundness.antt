@@ -29,19 +29,19 @@ no_entry : (text : List ℕ) (events left : List Event) (after : Bool) (t : Visi
 no_entry text events left after t f = elim f [ ]
 
 -- a tree that is left out holds no other
-ends_at_once : (text : List ℕ) (row : Text → ℕ) (n d : ℕ) (inner : Trees) (t : Visited) (events : List Event) (vs : List Visit)
-    → FollowAll text events true (visits row n d inner ++ Leaves t ∷ vs) → (inner ≡ None') × FollowAll text events false vs
-ends_at_once text row n d None' t events vs (more (leaves_end _ _) follow) = (refl, follow)
-ends_at_once text row n d (Tree r i j inner others) t events vs (more f follow) = absurd (no_entry text events _ _ _ f)
+ends_at_once : (text : List ℕ) (rule : Text → ℕ) (n d : ℕ) (inner : Trees) (t : Visited) (events : List Event) (vs : List Visit)
+    → FollowAll text events true (visits rule n d inner ++ Leaves t ∷ vs) → (inner ≡ None') × FollowAll text events false vs
+ends_at_once text rule n d None' t events vs (more (leaves_end _ _) follow) = (refl, follow)
+ends_at_once text rule n d (Tree r i j inner others) t events vs (more f follow) = absurd (no_entry text events _ _ _ f)
 
-module _ (text : List ℕ) (row : Text → ℕ) where
-  split : (n d : ℕ) (us : Trees) (events : List Event) (vs : List Visit) → FollowAll text events false (visits row n d us ++ vs)
+module _ (text : List ℕ) (rule : Text → ℕ) where
+  split : (n d : ℕ) (us : Trees) (events : List Event) (vs : List Visit) → FollowAll text events false (visits rule n d us ++ vs)
       → Split text us vs events
   split n d None' events vs follow = record { before = []; after = events; whole = refl; agree = none; follow = follow }
   split n d (Tree r i j inner others) _ vs (more (enters t event events is) follow) =
-      let behind = visits row (suc n + count_of inner) d others in
-      let i_ = split (suc n) (suc d) inner events (Leaves (visited row n d r i j inner) ∷ (behind ++ vs))
-      (subst (FollowAll text events false) (append_assoc (visits row (suc n) (suc d) inner) (Leaves (visited row n d r i j inner) ∷ behind) vs) follow) in
+      let behind = visits rule (suc n + count_of inner) d others in
+      let i_ = split (suc n) (suc d) inner events (Leaves (visited rule n d r i j inner) ∷ (behind ++ vs))
+      (subst (FollowAll text events false) (append_assoc (visits rule (suc n) (suc d) inner) (Leaves (visited rule n d r i j inner) ∷ behind) vs) follow) in
       let left = leave_first text _ i_.after (behind ++ vs) i_.follow in
       let o = split (suc n + count_of inner) d others left.0 vs left.2 in
       record {
@@ -52,9 +52,9 @@ module _ (text : List ℕ) (row : Text → ℕ) where
         follow = o.follow;
       }
   split n d (Tree r i j inner others) events vs (more (enters_end t _ e) follow) =
-      let behind = visits row (suc n + count_of inner) d others in
-      let ended = ends_at_once text row (suc n) (suc d) inner _ events (behind ++ vs)
-      (subst (FollowAll text events true) (append_assoc (visits row (suc n) (suc d) inner) (Leaves (visited row n d r i j inner) ∷ behind) vs) follow) in
+      let behind = visits rule (suc n + count_of inner) d others in
+      let ended = ends_at_once text rule (suc n) (suc d) inner _ events (behind ++ vs)
+      (subst (FollowAll text events true) (append_assoc (visits rule (suc n) (suc d) inner) (Leaves (visited rule n d r i j inner) ∷ behind) vs) follow) in
       let o = split (suc n + count_of inner) d others events vs ended.1 in
       record {
         before = o.before;
@@ -69,9 +69,9 @@ module _ (text : List ℕ) (row : Text → ℕ) where
   nothing_left events followed = refl
 
   -- all events are those of the trees
-  pub all_agree : (us : Trees) (events : List Event) → FollowAll text events false (visits row 0 0 us) → Agree text events us
+  pub all_agree : (us : Trees) (events : List Event) → FollowAll text events false (visits rule 0 0 us) → Agree text events us
   all_agree us events follow =
-      let s = split 0 0 us events [] (subst (FollowAll text events false) (sym (append-nil (visits row 0 0 us))) follow) in
+      let s = split 0 0 us events [] (subst (FollowAll text events false) (sym (append-nil (visits rule 0 0 us))) follow) in
       subst (λ es. Agree text es us) (sym (s.whole ∙ (ap (λ es. s.before ++ es) (nothing_left s.after s.follow) ∙ append-nil s.before))) s.agree
 
 -- a walk that has ended follows no event

@@ -6,7 +6,7 @@ use Rattle.std.specs.Str.{chars}
 use Rattle.base_language.specs.Language.Expression.{Grammar, rule_of}
 use Rattle.base_language.specs.Language.State.{Failure as Failed, State, Success, Trees}
 use Rattle.matcher_engine.specs.BlockRuns.{IsStopped}
-use Rattle.matcher_engine.specs.Preorders.{HasPreorder}
+use Rattle.matcher_engine.specs.ParseTrees.{HasParseTree}
 use Rattle.matcher_program.specs.Answers.{Has, start_of}
 use Rattle.matcher_support.specs.Compiled.{FailsIn}
 use Rattle.matcher_support.specs.Sets.{is_in_property}
@@ -61,7 +61,7 @@ Passes g rule case = IsAsExpected g rule case case.expected
 -- a case fails for this reason
 abbrev pub FailsFor : Grammar → List ℕ → Case → Failure → Type 0
 FailsFor g rule case (failure.Differs found) =
-    HasPreorder g (chars rule) (start_of case.text.now) is_in_property found
+    HasParseTree g (chars rule) (start_of case.text.now) is_in_property found
 FailsFor g rule case failure.Matches =
     (case.expected ≡ expected.Failure) × MatchesAs g rule case (λ trees. ⊤)
 FailsFor g rule case (failure.EndsEarly found) = EndsEarly g rule case

@@ -29,8 +29,8 @@ pub fn agrees(
     text: &str,
     mut walk: TreeWalk<'_, '_>,
 ) -> Result<bool, AllocError>
-    ensures { IfOk result (λ yes. (row : Text → ℕ) (trees : Trees)
-        → visits_left walk.entry ≡ visits row 0 0 trees → yes ≡ true → Agree text.now events.now trees) }
+    ensures { IfOk result (λ yes. (rule : Text → ℕ) (trees : Trees)
+        → visits_left walk.entry ≡ visits rule 0 0 trees → yes ≡ true → Agree text.now events.now trees) }
 {
     let mut progress = Progress {
         rest: events,

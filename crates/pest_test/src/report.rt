@@ -7,7 +7,7 @@ use crate::lines::{expected_lines, found_lines, has_ends, has_texts, print_diffe
 use crate::verdicts::{Failure, Verdict, most_steps, rule_of};
 use base_language::grammar::Rule;
 use base_language::runtime::{Error, ErrorVariant, Fault, LineColLocation, Position};
-use matcher_engine::matcher::Preorder;
+use matcher_engine::matcher::ParseTree;
 use matcher_program::answers::Stop;
 use matcher_support::compiled::CompiledGrammar;
 use matcher_support::expectations::failure_message;
@@ -283,7 +283,7 @@ fn describe_difference(
     alloc: Global,
     tested: Tested<'_>,
     case: &Case<'_>,
-    found: &Preorder,
+    found: &ParseTree,
 ) -> Result<String, AllocError> {
     match &case.expected {
         Expected::Trees(events) => compare_trees(alloc, tested, case, events, found),
@@ -297,7 +297,7 @@ fn compare_trees(
     tested: Tested<'_>,
     case: &Case<'_>,
     events: &[Event<'_>],
-    found: &Preorder,
+    found: &ParseTree,
 ) -> Result<String, AllocError> {
     let expected = expected_lines(alloc, events)?;
     let walk = tested.rules.walk(alloc, found);

@@ -6,7 +6,7 @@ use crate::cases::{Case, Expected, FilePart};
 use crate::expected::Event;
 use crate::lines::{found_lines, has_ends, has_texts, print_trees};
 use crate::verdicts::{Failure, Verdict};
-use matcher_engine::matcher::Preorder;
+use matcher_engine::matcher::ParseTree;
 use matcher_support::compiled::CompiledGrammar;
 use std::alloc::{AllocError, Global};
 
@@ -47,7 +47,7 @@ fn write_trees(
     file: &str,
     case: &Case<'_>,
     events: &[Event<'_>],
-    found: &Preorder,
+    found: &ParseTree,
 ) -> Result<String, AllocError> {
     let walk = rules.walk(alloc, found);
     let lines = found_lines(alloc, case.text, walk, has_ends(events))?;

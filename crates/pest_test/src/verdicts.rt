@@ -1,7 +1,7 @@
 //! Verdicts on cases.
 ghost use Rattle.std.specs.Prelude.{◌≡◌, ℕ, List, IfOk, chars, false, length};
 ghost use Rattle.base_language.specs.Language.Expression.{Grammar};
-ghost use Rattle.matcher_engine.specs.Preorders.{HasPreorder};
+ghost use Rattle.matcher_engine.specs.ParseTrees.{HasParseTree};
 ghost use Rattle.matcher_program.specs.Answers.{start_of};
 ghost use Rattle.matcher_support.specs.Compiled.{FailsIn, IsCompiledOf, IsRefusedBy};
 ghost use Rattle.matcher_support.specs.Sets.{is_in_property};
@@ -10,7 +10,7 @@ ghost use Rattle.pest_test.specs.Verdicts.{AreVerdicts, IsVerdict, IsVerdictBy, 
 use crate::agreement::agrees;
 use crate::cases::{Case, Expected};
 use matcher_engine::block::BlockStop;
-use matcher_engine::matcher::Preorder;
+use matcher_engine::matcher::ParseTree;
 use matcher_program::answers::Stop;
 use matcher_support::compiled::CompiledGrammar;
 use program_support::status::Status;
@@ -28,11 +28,11 @@ pub enum Verdict {
 #[derive(Drop)]
 pub enum Failure {
     /// The rule matches as it should, but the trees are not the expected ones.
-    Differs(Preorder),
+    Differs(ParseTree),
     /// The rule matches, but the case says that the text does not match.
     Matches,
     /// The rule matches only a prefix of the text.
-    EndsEarly(Preorder),
+    EndsEarly(ParseTree),
     /// The rule fails. This is the furthest position of a failure, in bytes.
     NoMatch(usize),
     /// The grammar has no rule of that name.
@@ -151,11 +151,11 @@ fn judge_match(
     alloc: Global,
     rules: &CompiledGrammar<'_>,
     case: &Case<'_>,
-    found: Preorder,
+    found: ParseTree,
 ) -> Result<Verdict, AllocError>
     requires { case.now.is_skipped ≡ false }
     ensures { (g : Grammar) (rule : List ℕ) → IsCompiledOf g rules.now
-        → HasPreorder g (chars rule) (start_of case.now.text.now) is_in_property found
+        → HasParseTree g (chars rule) (start_of case.now.text.now) is_in_property found
         → IfOk result (IsVerdictBy g rule case.now) }
 {
     let is_early = !case.is_prefix && found.end != case.text.len();

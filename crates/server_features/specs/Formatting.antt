@@ -19,14 +19,14 @@ use Rattle.server_symbols.specs.declared.outline.Definition.{Definition}
 use Rattle.server_symbols.specs.declared.edits.Edit.{Edit}
 use Rattle.server_symbols.specs.declared.tokens.Extent.{Extent}
 use Rattle.front_syntax.specs.Parses.{IsRefused}
-use Rattle.front_syntax.specs.declared.entries.Entry.{Entry}
+use Rattle.front_syntax.specs.declared.events.TokenEvent.{TokenEvent}
 use Rattle.serde_json.specs.Data.{Data, array, null}
 use Rattle.serde_json.specs.View.{items_of, view}
 
 -- a text is no grammar, or one that stays as it is
 abbrev pub StaysAsItIs : List ℕ → Type 0
 StaysAsItIs text = ((errors : List (Error Rule)) × IsRefused grammar_rules text errors)
-    ⊎ ((entries : List Entry) × AreTokens text entries)
+    ⊎ ((events : List TokenEvent) × AreTokens text events)
 
 -- the formatted text of a grammar, if it is formatted
 abbrev pub IsFormattedAs : List ℕ → Option (String Global) → Type 0

@@ -2,7 +2,7 @@
 ghost use Rattle.std.specs.Prelude.{◌≡◌, ◌≢◌, ◌++◌, [], IfOk, MatchBool, MatchOption, OnOk, true};
 ghost use Rattle.base_language.specs.declared.grammar.Rule.TheVariants.{grammar_rules};
 ghost use Rattle.front_syntax.specs.Parses.{AreTokensOf};
-ghost use Rattle.front_syntax.specs.declared.entries.Entry.TheVariants.{End};
+ghost use Rattle.front_syntax.specs.declared.events.TokenEvent.TheVariants.{End};
 ghost use Rattle.server_symbols.specs.NewNames.{IsNewName};
 ghost use Rattle.server_symbols.specs.Renaming as spec;
 ghost use Rattle.server_symbols.specs.Renaming.{IsRenaming};
@@ -14,7 +14,7 @@ use base_language::derived::equality_of_rules;
 use base_language::grammar::Rule;
 use base_language::runtime::Fault;
 use front_names::is_builtin;
-use front_syntax::entries::Entry;
+use front_syntax::events::TokenEvent;
 use front_syntax::grammar::PestParser;
 use std::alloc::{AllocError, Global};
 
@@ -48,8 +48,8 @@ pub fn rename(
     if is_keyword(alloc, new_name)? {
         return Ok(Renaming::Refused(RenameRefusal::Keyword));
     }
-    match entries_of(alloc, text)? {
-        Some(entries) => rename_among(alloc, text, &entries, name, new_name, mentions),
+    match events_of(alloc, text)? {
+        Some(events) => rename_among(alloc, text, &events, name, new_name, mentions),
         None => Ok(Renaming::Refused(RenameRefusal::NoGrammar)),
     }
 }
@@ -58,23 +58,23 @@ pub fn rename(
 fn rename_among(
     alloc: Global,
     text: &str,
-    entries: &[Entry],
+    events: &[TokenEvent],
     name: &str,
     new_name: &str,
     mentions: &[Extent],
 ) -> Result<Renaming, AllocError>
-    requires entries { AreTokensOf grammar_rules text.now entries.now }
+    requires events { AreTokensOf grammar_rules text.now events.now }
     requires name { IsNewName new_name.now }
     ensures { IfOk result (IsRenaming text.now name.now new_name.now mentions.now) }
 {
     let bytes = text.as_bytes();
-    if !is_defined(bytes, name.as_bytes(), entries) {
+    if !is_defined(bytes, name.as_bytes(), events) {
         return Ok(Renaming::Refused(RenameRefusal::NoRule));
     }
-    if is_taken(alloc, bytes, name.as_bytes(), entries, new_name.as_bytes())? {
+    if is_taken(alloc, bytes, name.as_bytes(), events, new_name.as_bytes())? {
         return Ok(Renaming::Refused(RenameRefusal::Taken));
     }
-    rename_in(alloc, text, entries, name, new_name, mentions)
+    rename_in(alloc, text, events, name, new_name, mentions)
 }
 
 /// Whether a rule other than the one of this name has the new name.
@@ -82,17 +82,17 @@ fn is_taken(
     alloc: Global,
     text: &[u8],
     name: &[u8],
-    entries: &[Entry],
+    events: &[TokenEvent],
     new_name: &[u8],
 ) -> Result<bool, AllocError>
     ensures { IfOk result (λ answer. MatchBool answer
-        (spec.places_after text.now new_name.now (End 0 0) entries.now ≢ [])
-        (spec.IsFree text.now name.now new_name.now entries.now)) }
+        (spec.places_after text.now new_name.now (End 0 0) events.now ≢ [])
+        (spec.IsFree text.now name.now new_name.now events.now)) }
 {
     if name == new_name {
         return Ok(false);
     }
-    let places = places_of(alloc, text, new_name, entries)?;
+    let places = places_of(alloc, text, new_name, events)?;
     Ok(!places.is_empty())
 }
 
@@ -100,23 +100,23 @@ fn is_taken(
 fn rename_in(
     alloc: Global,
     text: &str,
-    entries: &[Entry],
+    events: &[TokenEvent],
     name: &str,
     new_name: &str,
     mentions: &[Extent],
 ) -> Result<Renaming, AllocError>
-    requires entries { AreTokensOf grammar_rules text.now entries.now }
+    requires events { AreTokensOf grammar_rules text.now events.now }
     requires name { IsNewName new_name.now }
-    requires defined { spec.is_defined text.now name.now entries.now ≡ true }
-    requires free { spec.IsFree text.now name.now new_name.now entries.now }
+    requires defined { spec.is_defined text.now name.now events.now ≡ true }
+    requires free { spec.IsFree text.now name.now new_name.now events.now }
     ensures { IfOk result (IsRenaming text.now name.now new_name.now mentions.now) }
 {
     let bytes = text.as_bytes();
-    let places = places_of(alloc, bytes, name.as_bytes(), entries)?;
+    let places = places_of(alloc, bytes, name.as_bytes(), events)?;
     let mut edits = mentions.to_vec(alloc)?;
     edits.extend_from_slice(&places)?;
     let edited = replace_all(alloc, bytes, &edits, new_name.as_bytes())?;
-    if is_renaming(alloc, bytes, entries, name, &edited, new_name)? {
+    if is_renaming(alloc, bytes, events, name, &edited, new_name)? {
         Ok(Renaming::Edits(edits))
     } else {
         Ok(Renaming::Refused(RenameRefusal::OtherTokens))
@@ -124,12 +124,12 @@ fn rename_in(
 }
 
 /// Returns the starts and ends of a grammar's tokens, or none if a text is no grammar.
-fn entries_of(alloc: Global, text: &str) -> Result<Option<Vec<Entry>>, AllocError>
+fn events_of(alloc: Global, text: &str) -> Result<Option<Vec<TokenEvent>>, AllocError>
     ensures { IfOk result (λ found. MatchOption found (spec.IsNoGrammar text.now)
-        (λ entries. AreTokensOf grammar_rules text.now entries.items)) }
+        (λ events. AreTokensOf grammar_rules text.now events.items)) }
 {
     match PestParser::tokens(alloc, Rule::grammar_rules, text) {
-        Ok(entries) => Ok(Some(entries)),
+        Ok(events) => Ok(Some(events)),
         Err(Fault::Grammar(_)) => Ok(None),
         Err(Fault::Memory(error)) => Err(error),
     }
@@ -176,33 +176,33 @@ fn places_of(
     alloc: Global,
     text: &[u8],
     name: &[u8],
-    entries: &[Entry],
+    events: &[TokenEvent],
 ) -> Result<Vec<Extent>, AllocError>
-    ensures { IfOk result (λ found. found.items ≡ spec.places_after text.now name.now (End 0 0) entries.now) }
+    ensures { IfOk result (λ found. found.items ≡ spec.places_after text.now name.now (End 0 0) events.now) }
 {
     let mut found = Vec::new(alloc);
-    let mut last = Entry::End { pos: 0, partner: 0 };
-    let mut rest = entries;
-    while let Some((entry, after)) = rest.split_first() {
-        push_place(text, name, last, *entry, &mut found)?;
-        last = *entry;
+    let mut last = TokenEvent::End { pos: 0, partner: 0 };
+    let mut rest = events;
+    while let Some((event, after)) = rest.split_first() {
+        push_place(text, name, last, *event, &mut found)?;
+        last = *event;
         rest = after;
     }
     Ok(found)
 }
 
-/// Adds the extent between two neighbouring entries, if it is an identifier of this name.
+/// Adds the extent between two neighbouring events, if it is an identifier of this name.
 fn push_place(
     text: &[u8],
     name: &[u8],
-    last: Entry,
-    entry: Entry,
+    last: TokenEvent,
+    event: TokenEvent,
     found: &mut Vec<Extent>,
 ) -> Result<(), AllocError>
     ensures { OnOk result
-        (found.new.items ≡ found.old.items ++ spec.place_between text.now name.now last entry) }
+        (found.new.items ≡ found.old.items ++ spec.place_between text.now name.now last event) }
 {
-    if let (Entry::Start { rule, pos, .. }, Entry::End { pos: end, .. }) = (last, entry) {
+    if let (TokenEvent::Start { rule, pos, .. }, TokenEvent::End { pos: end, .. }) = (last, event) {
         if is_place(text, rule, pos, end, name) {
             found.push(Extent { start: pos, end })?;
         }
@@ -211,32 +211,38 @@ fn push_place(
 }
 
 /// Whether a rule of this name is defined in a grammar with these tokens.
-fn is_defined(text: &[u8], name: &[u8], entries: &[Entry]) -> bool
-    ensures { result ≡ spec.is_defined text.now name.now entries.now }
+fn is_defined(text: &[u8], name: &[u8], events: &[TokenEvent]) -> bool
+    ensures { result ≡ spec.is_defined text.now name.now events.now }
 {
-    let mut before = Entry::End { pos: 0, partner: 0 };
+    let mut before = TokenEvent::End { pos: 0, partner: 0 };
     let mut last = before;
-    let mut rest = entries;
-    while let Some((entry, after)) = rest.split_first() {
-        if is_definition_of(text, name, before, last, *entry) {
+    let mut rest = events;
+    while let Some((event, after)) = rest.split_first() {
+        if is_definition_of(text, name, before, last, *event) {
             return true;
         }
         before = last;
-        last = *entry;
+        last = *event;
         rest = after;
     }
     false
 }
 
-/// Whether three neighbouring entries are the start of a definition and its name, which is this one.
-fn is_definition_of(text: &[u8], name: &[u8], before: Entry, last: Entry, entry: Entry) -> bool
-    ensures { result ≡ spec.defines text.now name.now before last entry }
+/// Whether three neighbouring events are the start of a definition and its name, which is this one.
+fn is_definition_of(
+    text: &[u8],
+    name: &[u8],
+    before: TokenEvent,
+    last: TokenEvent,
+    event: TokenEvent,
+) -> bool
+    ensures { result ≡ spec.defines text.now name.now before last event }
 {
-    match (before, last, entry) {
+    match (before, last, event) {
         (
-            Entry::Start { rule: outer, .. },
-            Entry::Start { rule, pos, .. },
-            Entry::End { pos: end, .. },
+            TokenEvent::Start { rule: outer, .. },
+            TokenEvent::Start { rule, pos, .. },
+            TokenEvent::End { pos: end, .. },
         ) => { is_definition_rule(outer) && is_place(text, rule, pos, end, name) }
         _ => false,
     }
@@ -246,16 +252,16 @@ fn is_definition_of(text: &[u8], name: &[u8], before: Entry, last: Entry, entry:
 fn is_renaming(
     alloc: Global,
     text: &[u8],
-    entries: &[Entry],
+    events: &[TokenEvent],
     name: &str,
     edited: &[u8],
     new_name: &str,
 ) -> Result<bool, AllocError>
     ensures { IfOk result (λ answer. answer ≡ true
-        → spec.IsEdited text.now name.now new_name.now entries.now edited.now) }
+        → spec.IsEdited text.now name.now new_name.now events.now edited.now) }
 {
     match str::from_utf8(edited) {
-        Ok(edited_text) => is_edited(alloc, text, entries, name, edited_text, new_name),
+        Ok(edited_text) => is_edited(alloc, text, events, name, edited_text, new_name),
         Err(_) => Ok(false),
     }
 }
@@ -264,20 +270,20 @@ fn is_renaming(
 fn is_edited(
     alloc: Global,
     text: &[u8],
-    entries: &[Entry],
+    events: &[TokenEvent],
     name: &str,
     edited: &str,
     new_name: &str,
 ) -> Result<bool, AllocError>
     ensures { IfOk result (λ answer. answer ≡ true
-        → spec.IsEdited text.now name.now new_name.now entries.now edited.now) }
+        → spec.IsEdited text.now name.now new_name.now events.now edited.now) }
 {
-    let Some(others) = entries_of(alloc, edited)? else {
+    let Some(others) = events_of(alloc, edited)? else {
         return Ok(false);
     };
     Ok(is_renamed(
         text,
-        entries,
+        events,
         name.as_bytes(),
         edited.as_bytes(),
         &others,
@@ -288,31 +294,31 @@ fn is_edited(
 /// Whether a text has the tokens of another one, with a new name in place of one, except for documentation.
 fn is_renamed(
     text: &[u8],
-    entries: &[Entry],
+    events: &[TokenEvent],
     name: &[u8],
     edited: &[u8],
-    others: &[Entry],
+    others: &[TokenEvent],
     new_name: &[u8],
 ) -> bool
     ensures { result ≡ true → spec.tokens_after edited.now (End 0 0) others.now
-        ≡ spec.renamed_after text.now name.now new_name.now (End 0 0) entries.now }
+        ≡ spec.renamed_after text.now name.now new_name.now (End 0 0) events.now }
 {
-    let mut last = Entry::End { pos: 0, partner: 0 };
+    let mut last = TokenEvent::End { pos: 0, partner: 0 };
     let mut other_last = last;
-    let mut rest = entries;
+    let mut rest = events;
     let mut other_rest = others;
-    while let Some((entry, after)) = rest.split_first() {
+    while let Some((event, after)) = rest.split_first() {
         let Some((other, other_after)) = other_rest.split_first() else {
             return false;
         };
-        if !is_same_entry(*entry, *other)
+        if !is_same_event(*event, *other)
             || !is_renamed_between(
-                text, last, *entry, name, edited, other_last, *other, new_name,
+                text, last, *event, name, edited, other_last, *other, new_name,
             )
         {
             return false;
         }
-        last = *entry;
+        last = *event;
         other_last = *other;
         rest = after;
         other_rest = other_after;
@@ -320,22 +326,22 @@ fn is_renamed(
     other_rest.is_empty()
 }
 
-/// Whether two entries are the same, except for their positions.
-fn is_same_entry(entry: Entry, other: Entry) -> bool
-    ensures { result ≡ true → spec.unplaced other ≡ spec.unplaced entry }
+/// Whether two events are the same, except for their positions.
+fn is_same_event(event: TokenEvent, other: TokenEvent) -> bool
+    ensures { result ≡ true → spec.unplaced other ≡ spec.unplaced event }
 {
-    match (entry, other) {
+    match (event, other) {
         (
-            Entry::Start { rule, partner, .. },
-            Entry::Start {
+            TokenEvent::Start { rule, partner, .. },
+            TokenEvent::Start {
                 rule: other_rule,
                 partner: other_partner,
                 ..
             },
         ) => is_same_rule(rule, other_rule) && partner == other_partner,
         (
-            Entry::End { partner, .. },
-            Entry::End {
+            TokenEvent::End { partner, .. },
+            TokenEvent::End {
                 partner: other_partner,
                 ..
             },
@@ -345,30 +351,30 @@ fn is_same_entry(entry: Entry, other: Entry) -> bool
 }
 
 /// Whether tokens that hold no others are documentation, have the same text, or the old and the new name. The
-/// entries are neighbours.
+/// events are neighbours.
 fn is_renamed_between(
     text: &[u8],
-    last: Entry,
-    entry: Entry,
+    last: TokenEvent,
+    event: TokenEvent,
     name: &[u8],
     edited: &[u8],
-    other_last: Entry,
-    other: Entry,
+    other_last: TokenEvent,
+    other: TokenEvent,
     new_name: &[u8],
 ) -> bool
     ensures { result ≡ true → spec.text_between edited.now other_last other
-        ≡ spec.renamed_between text.now name.now new_name.now last entry }
+        ≡ spec.renamed_between text.now name.now new_name.now last event }
 {
-    match (last, entry, other_last, other) {
+    match (last, event, other_last, other) {
         (
-            Entry::Start { rule, pos, .. },
-            Entry::End { pos: end, .. },
-            Entry::Start {
+            TokenEvent::Start { rule, pos, .. },
+            TokenEvent::End { pos: end, .. },
+            TokenEvent::Start {
                 rule: other_rule,
                 pos: other_pos,
                 ..
             },
-            Entry::End { pos: other_end, .. },
+            TokenEvent::End { pos: other_end, .. },
         ) => {
             let other_token = part(edited, other_pos, other_end);
             if is_doc_rule(rule) || is_doc_rule(other_rule) {
@@ -379,8 +385,8 @@ fn is_renamed_between(
                 other_token == part(text, pos, end)
             }
         }
-        (Entry::Start { .. }, Entry::End { .. }, _, _) => false,
-        (_, _, Entry::Start { .. }, Entry::End { .. }) => false,
+        (TokenEvent::Start { .. }, TokenEvent::End { .. }, _, _) => false,
+        (_, _, TokenEvent::Start { .. }, TokenEvent::End { .. }) => false,
         _ => true,
     }
 }

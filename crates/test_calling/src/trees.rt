@@ -35,7 +35,7 @@ fn print_trees(
     match compiled.match_text(rt.alloc(), rule, text, Some(steps)) {
         Ok(found) => {
             for tree in &found.trees {
-                let name = text_name(compiled.rule_names(), tree.row);
+                let name = text_name(compiled.rule_names(), tree.rule);
                 println!(rt; "{name}: {} to {}, {}", tree.start, tree.end, tree.after)?;
             }
             println!(rt; "end: {}, furthest failure: {}", found.end, found.furthest)

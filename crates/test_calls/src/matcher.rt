@@ -11,13 +11,13 @@ ghost use Rattle.matcher_program.specs.Refusals.{IsReason};
 ghost use Rattle.matcher_engine.specs.BlockRuns.{IsOutcome};
 ghost use Rattle.matcher_engine.specs.Blocks.{HasRules, IsBlockOf, IsWhole, operations_in};
 ghost use Rattle.matcher_engine.specs.Limits.{IsAmple, steps_of, turns_of};
-ghost use Rattle.matcher_engine.specs.Preorders.{HasPreorder};
+ghost use Rattle.matcher_engine.specs.ParseTrees.{HasParseTree};
 ghost use Rattle.matcher_engine.specs.Walks.{AreNamesOf};
 
 use base_ast::optimized::OptimizedRule;
 use base_language::runtime::Position;
 use matcher_engine::block::BlockStop;
-use matcher_engine::matcher::Preorder;
+use matcher_engine::matcher::ParseTree;
 use matcher_engine::walk::walk_names;
 use matcher_program::answers::Stop;
 use matcher_program::compile::Unfit;
@@ -46,7 +46,7 @@ pub fn run_block(
     rule: u32,
     start: Position<'_>,
     limit: Option<u64>,
-) -> Result<Preorder, BlockStop>
+) -> Result<ParseTree, BlockStop>
     ensures outcome { (g : Grammar) (classes : Classes) → IsBlockOf g classes block.now
         → (n : Text) → last_place g n ≡ Some rule
         → IsOutcome g n (state_at start.entry) classes (steps_of limit) result }
@@ -64,10 +64,10 @@ pub fn tree_text(
     alloc: Global,
     names: &[&str],
     text: &str,
-    found: &Preorder,
+    found: &ParseTree,
 ) -> Result<String, AllocError>
     ensures { IfOk result (λ lines. (g : Grammar) → AreNamesOf g names.now
-        → (n : Text) (s : State) (classes : Classes) → (x : HasPreorder g n s classes found.now)
+        → (n : Text) (s : State) (classes : Classes) → (x : HasParseTree g n s classes found.now)
         → string_bytes lines ≡ shown text.now 0 x.trees) }
 {
     matcher_support::shown::tree_text(alloc, text, walk_names(alloc, names, found))

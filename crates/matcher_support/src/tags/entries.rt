@@ -85,7 +85,7 @@ pub fn tag_entries<'a>(
     alloc: Global,
     mut walk: TreeWalk<'a, '_>,
 ) -> Result<Vec<TaggedEntry<'a>>, AllocError>
-    ensures { (row : Text → ℕ) (us : Trees) → visits_left walk.entry ≡ visits row 0 0 us
+    ensures { (rule : Text → ℕ) (us : Trees) → visits_left walk.entry ≡ visits rule 0 0 us
         → IfOk result (λ tags. last_first tags.items ≡ entries_onto (spliced us NoTokens) []) }
 {
     let mut tagged = Vec::new(alloc);

@@ -14,7 +14,7 @@ returns-in-Found c =
     let new = c.run_with_memory.new.self in
     let run = c.result_of.result in
     let m = c.new-machine.ensures in
-    let begins : IsFresh old old.asked = record { slots = m.slots; trees = m.trees; pushed = m.pushed; furthest = m.furthest; asked = refl; names = m.names } in
+    let begins : IsFresh old old.asked = record { frames = m.frames; trees = m.trees; pushed = m.pushed; furthest = m.furthest; asked = refl; names = m.names } in
     let taken : IsTaken new run = record { trees = c.result_of.ensures.trees; furthest = c.result_of.ensures.furthest; names = c.result_of.ensures.names } in
     let asks : length c.args.text.now < old.asked = omega (arith, c.if-text.false, m.asked) in
     subst (λ e. Parses c.args.rule c.args.text.now run e) (sym c.result_of.ensures.end)
@@ -30,7 +30,7 @@ returns-in-Failed c =
     let new = c.run_with_memory.new.self in
     let run = c.result_of-in-Failed.result in
     let m = c.new-machine.ensures in
-    let begins : IsFresh old old.asked = record { slots = m.slots; trees = m.trees; pushed = m.pushed; furthest = m.furthest; asked = refl; names = m.names } in
+    let begins : IsFresh old old.asked = record { frames = m.frames; trees = m.trees; pushed = m.pushed; furthest = m.furthest; asked = refl; names = m.names } in
     let taken : IsTaken new run = record { trees = c.result_of-in-Failed.ensures.trees; furthest = c.result_of-in-Failed.ensures.furthest; names = c.result_of-in-Failed.ensures.names } in
     let asks : length c.args.text.now < old.asked = omega (arith, c.if-text.false, m.asked) in
     subst (λ e. Parses c.args.rule c.args.text.now run e) (sym c.result_of-in-Failed.ensures.end)

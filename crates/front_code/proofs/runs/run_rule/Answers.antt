@@ -14,7 +14,7 @@ returns-in-Found c =
     let new = c.run_with_memory.new.self in
     let run = c.result_of.result in
     let m = c.new-machine.ensures in
-    let begins : IsFresh old c.args.place = record { slots = m.slots; trees = m.trees; pushed = m.pushed; furthest = m.furthest; asked = refl; names = m.names } in
+    let begins : IsFresh old c.args.place = record { frames = m.frames; trees = m.trees; pushed = m.pushed; furthest = m.furthest; asked = refl; names = m.names } in
     let taken : IsTaken new run = record { trees = c.result_of.ensures.trees; furthest = c.result_of.ensures.furthest; names = c.result_of.ensures.names } in
     subst (λ e. HasEnded c.args.rule c.args.text.now c.args.place run e) (sym c.result_of.ensures.end)
     (λ classes.
@@ -29,7 +29,7 @@ returns-in-Failed c =
     let new = c.run_with_memory.new.self in
     let run = c.result_of-in-Failed.result in
     let m = c.new-machine.ensures in
-    let begins : IsFresh old c.args.place = record { slots = m.slots; trees = m.trees; pushed = m.pushed; furthest = m.furthest; asked = refl; names = m.names } in
+    let begins : IsFresh old c.args.place = record { frames = m.frames; trees = m.trees; pushed = m.pushed; furthest = m.furthest; asked = refl; names = m.names } in
     let taken : IsTaken new run = record { trees = c.result_of-in-Failed.ensures.trees; furthest = c.result_of-in-Failed.ensures.furthest; names = c.result_of-in-Failed.ensures.names } in
     subst (λ e. HasEnded c.args.rule c.args.text.now c.args.place run e) (sym c.result_of-in-Failed.ensures.end)
     (λ classes.

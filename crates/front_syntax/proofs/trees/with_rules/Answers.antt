@@ -9,7 +9,7 @@ pub loop-number-preserved : goal.loop-number-preserved
 loop-number-preserved c =
     let nodes = c.args.nodes.now in
     let k = c.loop-number.number in
-    let d : TreeNode = record { row = 0; start = 0; end = 0; after = 0 } in
+    let d : TreeNode = record { rule = 0; start = 0; end = 0; after = 0 } in
     let t = get_or nodes k d in
     let node : Rule → ℕ → TokenNode = λ r i. record { rule = r; start = t.start; end = t.end; inner = i } in
     let size : c.saturating_sub-inner.result ≡ t.after - suc k = omega (arith, c.saturating_sub-inner.ensures, c.saturating_sub.ensures) in

@@ -7,7 +7,7 @@ use Rattle.matcher_compiler.proofs.compile.plan_entries.Goals as goal
 pub loop-rule-preserved : goal.loop-rule-preserved
 loop-rule-preserved c =
     let p = c.args.program.now in
-    let within : c.loop-rule.rule < length p.rows.items = grind (arith, common_steps) in
+    let within : c.loop-rule.rule < length p.rules.items = grind (arith, common_steps) in
     let later = c.in_ok-point.ensures.later p within in
     record {
       later = later_twice p _ _ _ c.loop-rule.invariant.later later;

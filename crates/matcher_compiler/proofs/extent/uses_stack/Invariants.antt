@@ -1,6 +1,6 @@
 use Rattle.std.proofs.Common.{◌≡◌, drop}
-use Rattle.matcher_compiler.specs.Extents.{rows_stack}
+use Rattle.matcher_compiler.specs.Extents.{program_rules_stack}
 use Rattle.matcher_compiler.proofs.extent.uses_stack.Given as goal
 
-abbrev pub invariant-loop-row : goal.invariant-loop-row
-invariant-loop-row l = rows_stack (drop l.row-index l.program.rows.items) ≡ rows_stack l.program.rows.items
+abbrev pub invariant-loop-program_rule : goal.invariant-loop-program_rule
+invariant-loop-program_rule l = program_rules_stack (drop l.program_rule-index l.program.rules.items) ≡ program_rules_stack l.program.rules.items

@@ -1,14 +1,14 @@
 use Rattle.std.proofs.Common.{◌<◌, inl, inr, length, subst, sym}
 use Rattle.matcher_code.specs.Bytecodes.{lists_in}
 use Rattle.matcher_machine.specs.Packrats.{most_turns}
-use Rattle.matcher_engine.specs.declared.matcher.Preorder.{Preorder}
+use Rattle.matcher_engine.specs.declared.matcher.ParseTree.{ParseTree}
 use Rattle.matcher_engine.proofs.Recognized.{ends_here, failed_here, packrat_here, within_here}
 use Rattle.matcher_engine.proofs.packrat.run_with_table.Goals as goal
 
 pub returns-in-Found-clause-right : goal.returns-in-Found-clause-right
 returns-in-Found-clause-right c = λ p exact is framed n meant classes fits.
     let run = c.in_ok-run.run' in
-    let it : Preorder = record { trees = run.trees; end = c.in-Found.end; furthest = run.furthest } in
+    let it : ParseTree = record { trees = run.trees; end = c.in-Found.end; furthest = run.furthest } in
     packrat_here p exact (lists_in c.args.code.now) is n c.args.number meant c.args.start c.whole_text-text.result.now c.pos.result c.whole_text-text.ensures c.pos.ensures c.whole_text-text.utf8 c.args.start.at_character c.in-Some.entry c.in-Some.ensures classes fits
     it (c.in_ok-run.ensures.matched framed c.in-Found.end c.in-Found.is)
 

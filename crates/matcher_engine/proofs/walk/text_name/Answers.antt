@@ -8,4 +8,4 @@ pub returns-in-None : goal.returns-in-None
 returns-in-None c =
     ap chars c.name.ensures
     ∙ eoi_text
-    ∙ sym (get_or_past (name_texts c.args.names.now) c.args.row (codes "EOI") (omega (arith, c.in-None.ensures.lookup.3, length-map c.args.names.now (λ w. chars w.now))))
+    ∙ sym (get_or_past (name_texts c.args.names.now) c.args.rule (codes "EOI") (omega (arith, c.in-None.ensures.lookup.3, length-map c.args.names.now (λ w. chars w.now))))

@@ -14,8 +14,8 @@ returns-then-may_run-2 c = λ h.
     let both = c.may_run_both-then-may_run-2.ensures code h in
     rw c.in-Sub.is (c.may_run-in-Sub.ensures code c.if-may_run-2.true, both.0, both.1)
 
-pub returns-in-Gap : goal.returns-in-Gap
-returns-in-Gap c = λ h. rw c.in-Gap.is (c.may_run_both-in-Gap.ensures (lists_in c.args.code.now) h)
+pub returns-in-Trivia : goal.returns-in-Trivia
+returns-in-Trivia c = λ h. rw c.in-Trivia.is (c.may_run_both-in-Trivia.ensures (lists_in c.args.code.now) h)
 
 pub returns-in-One : goal.returns-in-One
 returns-in-One c = λ h.

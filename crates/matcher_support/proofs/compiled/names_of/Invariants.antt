@@ -6,6 +6,6 @@ use Rattle.matcher_engine.specs.Walks.{AreNamesOf}
 use Rattle.matcher_program.specs.ExpectedNames.{name_texts}
 use Rattle.matcher_support.proofs.compiled.names_of.Given as goal
 
-abbrev pub invariant-loop-row : goal.invariant-loop-row
-invariant-loop-row l = (g : Grammar) → AreNamesOf g l.names → (ns : List Text) → l.rows ≡ map (number_in g) ns
-    → HaveNumbers g ns → name_texts l.found.items ≡ take l.row-index ns
+abbrev pub invariant-loop-rule : goal.invariant-loop-rule
+invariant-loop-rule l = (g : Grammar) → AreNamesOf g l.names → (ns : List Text) → l.rules ≡ map (number_in g) ns
+    → HaveNumbers g ns → name_texts l.found.items ≡ take l.rule-index ns

@@ -9,6 +9,6 @@ visits-preserved c =
     one_more _ (string_bytes c.visits.lines) (string_bytes c.write_visit.new.lines) _ _ _ next c.visits.invariant c.in_ok-write_visit.ensures
 
 pub returns : goal.returns
-returns c = λ row trees e.
+returns c = λ rule trees e.
     let last = rw c.in_default.is at c.in_ok-visit.ensures in
-    all_written _ (string_bytes c.visits.lines) _ last c.visits.invariant ∙ (ap flat e ∙ all_lines row trees)
+    all_written _ (string_bytes c.visits.lines) _ last c.visits.invariant ∙ (ap flat e ∙ all_lines rule trees)

@@ -10,7 +10,7 @@ visits-preserved c =
     one_more c.args.text.now _ (string_bytes c.visits.lines) (string_bytes c.write_visit.new.lines) c.visits.level c.in_ok-level.level (option_map visit_of c.visits.before) _ _ _ next c.visits.invariant c.in_ok-write_visit.ensures c.in_ok-level.ensures
 
 pub returns : goal.returns
-returns c = λ row trees e.
+returns c = λ rule trees e.
     let last = rw c.in_default.is at c.in_ok-visit.ensures in
     all_written c.args.text.now _ (string_bytes c.visits.lines) c.visits.level (option_map visit_of c.visits.before) _ last c.visits.invariant
-    ∙ all_lines row c.args.text.now trees _ e
+    ∙ all_lines rule c.args.text.now trees _ e

@@ -6,7 +6,7 @@ use Rattle.pest_meta_c.proofs.compiled.pest_meta_expected.Goals as goal
 pub returns-in-Ok-clause-expected : goal.returns-in-Ok-clause-expected
 returns-in-Ok-clause-expected c = λ e g classes is n meant.
     subst (λ s. AreExpected g n s classes c.args.steps c.args.place c.hand_out.result.now) c.in-Some.ensures.state
-    (subst (λ rows. AreExpected g n (state_at c.in-Some.start) classes c.args.steps c.args.place rows) (sym c.hand_out.ensures)
+    (subst (λ rules. AreExpected g n (state_at c.in-Some.start) classes c.args.steps c.args.place rules) (sym c.hand_out.ensures)
     (c.in-Ok.ensures.expected g classes is n meant))
 
 pub returns-in-Err-clause-refused : goal.returns-in-Err-clause-refused

@@ -13,13 +13,13 @@ visits-preserved c = λ rest.
     c.visits.invariant (subst (FollowAll c.args.text.now c.visits.progress.rest.now c.visits.progress.is_inside_end) (sym next) (more c.in-Some-follow.ensures rest))
 
 pub returns : goal.returns
-returns c = λ row trees e yes.
+returns c = λ rule trees e yes.
     let last = rw c.in_default.is at c.in_ok-visit.ensures in
     elim c.if-is_empty.branch [
       | then-is_empty w ↦
           let empty = nil_from_length c.visits.progress.rest.now (eqb-true (length c.visits.progress.rest.now) 0 (sym c.is_empty.ensures ∙ w.if-is_empty.true)) in
           let out = outside c.visits.progress.is_inside_end (sym w.result-is ∙ yes) in
           let all = c.visits.invariant (all_followed c.args.text.now _ _ _ empty out last) in
-          all_agree c.args.text.now row trees c.args.events.now (subst (FollowAll c.args.text.now c.args.events.now _) e all)
+          all_agree c.args.text.now rule trees c.args.events.now (subst (FollowAll c.args.text.now c.args.events.now _) e all)
       | else-is_empty w ↦ absurd (true≢false (sym yes ∙ (w.result-is ∙ w.if-is_empty.false)))
     ]

@@ -10,7 +10,7 @@ use Rattle.matcher_compiler.proofs.plan.Plan.blank_call.Goals as goal
 pub call-requires-clause-within : goal.call-requires-clause-within
 call-requires-clause-within c =
     let p = c.args.program.now in
-    rule_within p.rows.items _ c.in-Some.rule (skipped_is_rule p whitespace c.in-Some.rule (white_meant p c.in-Some.rule c.requires.sound c.in-Some.is))
+    rule_within p.rules.items _ c.in-Some.rule (skipped_is_rule p whitespace c.in-Some.rule (white_meant p c.in-Some.rule c.requires.sound c.in-Some.is))
 
 pub returns-clause-lays : goal.returns-clause-lays
 returns-clause-lays c = λ classes fits code laid m.

@@ -4,7 +4,7 @@ use Rattle.base_language.specs.Language.Meaning as by
 use Rattle.base_language.specs.Language.Meaning.{Run, skipped}
 use Rattle.base_language.specs.Language.State.{Between}
 use Rattle.matcher_code.specs.Laid as lay
-use Rattle.matcher_code.proofs.Gaps.{gap_of}
+use Rattle.matcher_code.proofs.Trivia.{trivia_of}
 use Rattle.matcher_compiler.specs.Exact.{is_exact}
 use Rattle.matcher_compiler.proofs.Growing.{later_twice}
 use Rattle.matcher_compiler.proofs.Noting.{if_noted}
@@ -34,7 +34,7 @@ returns-clause-lays c = λ classes fits code laid m.
     let h = c.args.first_set in
     subst (λ w. lay.Lays (is_exact code) (grammar_in p) classes code (number_in (grammar_in p)) laid at.rank (Run Between skipped) at.label at.next w) (sym c.requires.on_fail)
     (lay.set_seq _ (tight_between (grammar_in p) classes)
-    (gap_of code (number_in (grammar_in p)) m.fail (is_exact code) (grammar_in p) classes (Run Between blanks) (Run Between (Rep one_comment)) c.args.set c.in_ok-stops.stops
+    (trivia_of code (number_in (grammar_in p)) m.fail (is_exact code) (grammar_in p) classes (Run Between blanks) (Run Between (Rep one_comment)) c.args.set c.in_ok-stops.stops
     s.ranges h.ranges.items b.characters h.noted at.label _ at.next c.in_ok-miss.miss (c.in_ok-operation.ensures.met p code laid m3)
     (λ x bs i u. m0.sets c.args.set x bs s.within i ∙ s.is x bs i u) b.covers b.takes (c.in_ok-stops.ensures.means p code laid m2)
     (λ t i. let x = c.requires.fails classes fits t i in (by.rep_none x.0, x.1, x.2)) (if_noted code h.noted _ _ (c.in_ok-miss.ensures.goes p code laid m1)) (c.in_ok-miss.ensures.goes p code laid m1) up)

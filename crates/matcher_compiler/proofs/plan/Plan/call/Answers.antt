@@ -8,13 +8,13 @@ use Rattle.matcher_compiler.proofs.Naming.{last_is, last_named, last_within}
 use Rattle.matcher_compiler.proofs.plan.Plan.call.Goals as goal
 
 pub last_call-requires-clause-last : goal.last_call-requires-clause-last
-last_call-requires-clause-last c = last_is c.args.program.now.rows.items c.args.rule _ (c.requires.lasts.last c.args.rule c.requires.within)
+last_call-requires-clause-last c = last_is c.args.program.now.rules.items c.args.rule _ (c.requires.lasts.last c.args.rule c.requires.within)
 
 pub last_call-requires-clause-within : goal.last_call-requires-clause-within
-last_call-requires-clause-within c = last_within c.args.program.now.rows.items c.args.rule _ (c.requires.lasts.last c.args.rule c.requires.within)
+last_call-requires-clause-within c = last_within c.args.program.now.rules.items c.args.rule _ (c.requires.lasts.last c.args.rule c.requires.within)
 
 pub returns-clause-lays : goal.returns-clause-lays
 returns-clause-lays c =
     let p = c.args.program.now in
     subst (λ n. OnOk c.last_call.result (LaysAt p c.last_call.new.self (Run (mode_of c.args.at.mode) (Ident n)) c.args.at))
-    (last_named p.rows.items c.args.rule _ (c.requires.lasts.last c.args.rule c.requires.within)) c.last_call.ensures.lays
+    (last_named p.rules.items c.args.rule _ (c.requires.lasts.last c.args.rule c.requires.within)) c.last_call.ensures.lays

@@ -17,7 +17,7 @@ returns-clause-turns c = λ code laid m.
     let m1 = (c.in_ok-operation.ensures.later p).met code laid m2 in
     record {
       last = _;
-      gap = _;
+      trivia = _;
       again = _;
       end = _;
       forward = c.requires.next;

@@ -4,7 +4,7 @@ use Rattle.matcher_code.specs.Failures.{end_failures}
 use Rattle.matcher_code.proofs.Ends.{end_performs}
 use Rattle.base_language.specs.Language.Matching.{end_outcome}
 use Rattle.matcher_sets.proofs.Leaves.{end_outcome_of}
-use Rattle.matcher_compiler.proofs.Calling.{end_number, leaf_row, miss_row}
+use Rattle.matcher_compiler.proofs.Calling.{end_number, leaf_rule, miss_rule}
 use Rattle.matcher_sets.specs.Modes.{mode_of}
 use Rattle.matcher_compiler.specs.Names.{number_in}
 use Rattle.matcher_sets.specs.Forms.{grammar_in}
@@ -21,5 +21,5 @@ returns-clause-lays c = λ classes fits code laid m.
     (end_outcome_of c.args.program.now classes c.args.at.mode c.requires.bound c.requires.seen)
     (end_performs code (number_in (grammar_in c.args.program.now)) m.fail (mode_of c.args.at.mode) c.args.at.label c.args.at.next c.args.at.on_fail _ _ c.requires.seen
     (c.in_ok-operation.ensures.met c.args.program.now code laid m1)
-    (leaf_row code _ (end_number c.args.program.now _ c.requires.bound c.end_row-row.ensures) (c.in_ok-operation-2.ensures.met c.args.program.now code laid m2))
-    (miss_row code _ (end_number c.args.program.now _ c.requires.bound c.end_row-row.ensures) (c.in_ok-operation-3.ensures.met c.args.program.now code laid m)))
+    (leaf_rule code _ (end_number c.args.program.now _ c.requires.bound c.end_rule-program_rule.ensures) (c.in_ok-operation-2.ensures.met c.args.program.now code laid m2))
+    (miss_rule code _ (end_number c.args.program.now _ c.requires.bound c.end_rule-program_rule.ensures) (c.in_ok-operation-3.ensures.met c.args.program.now code laid m)))

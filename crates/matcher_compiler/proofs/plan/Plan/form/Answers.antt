@@ -36,8 +36,8 @@ returns-in-End-clause-lays c =
 pub call-requires-clause-within : goal.call-requires-clause-within
 call-requires-clause-within c =
     let p = c.args.program.now in
-    let meant : IsRuleOf (grammar_in p) (name_at (names_of p.rows.items) c.in-Call.rule) c.in-Call.rule = subst (IsBoundIn p) c.in-Call.is c.requires.bound in
-    rule_within p.rows.items _ c.in-Call.rule meant
+    let meant : IsRuleOf (grammar_in p) (name_at (names_of p.rules.items) c.in-Call.rule) c.in-Call.rule = subst (IsBoundIn p) c.in-Call.is c.requires.bound in
+    rule_within p.rules.items _ c.in-Call.rule meant
 
 pub returns-in-Call-clause-lays : goal.returns-in-Call-clause-lays
 returns-in-Call-clause-lays c =

@@ -6,9 +6,9 @@ use Rattle.matcher_compiler.proofs.plan.Plan.last_call.Goals as goal
 pub token_call-requires-clause-meant : goal.token_call-requires-clause-meant
 token_call-requires-clause-meant c =
     let p = c.args.program.now in
-    meant_of (grammar_in p) (name_at (names_of p.rows.items) c.args.rule) c.args.rule c.requires.last
+    meant_of (grammar_in p) (name_at (names_of p.rules.items) c.args.rule) c.args.rule c.requires.last
 
 pub quiet_call-requires-clause-meant : goal.quiet_call-requires-clause-meant
 quiet_call-requires-clause-meant c =
     let p = c.args.program.now in
-    meant_of (grammar_in p) (name_at (names_of p.rows.items) c.args.rule) c.args.rule c.requires.last
+    meant_of (grammar_in p) (name_at (names_of p.rules.items) c.args.rule) c.args.rule c.requires.last

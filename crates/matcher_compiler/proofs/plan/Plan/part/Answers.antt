@@ -19,8 +19,8 @@ returns-in-Repetition-clause-lays c = subst (λ q. OnOk c.turns.result (LaysAt c
 pub returns-in-Rule-clause-lays : goal.returns-in-Rule-clause-lays
 returns-in-Rule-clause-lays c = subst (λ q. OnOk c.call.result (LaysAt c.args.program.now c.call.new.self (task_in c.args.program.now q (mode_of c.args.point.at.mode)) c.args.point.at)) (sym c.in-Rule.is) c.call.ensures.lays
 
-pub returns-in-Gap-clause-lays : goal.returns-in-Gap-clause-lays
-returns-in-Gap-clause-lays c = subst (λ q. OnOk c.gap.result (LaysAt c.args.program.now c.gap.new.self (task_in c.args.program.now q (mode_of c.args.point.at.mode)) c.args.point.at)) (sym c.in-Gap.is) c.gap.ensures.lays
+pub returns-in-Trivia-clause-lays : goal.returns-in-Trivia-clause-lays
+returns-in-Trivia-clause-lays c = subst (λ q. OnOk c.trivia.result (LaysAt c.args.program.now c.trivia.new.self (task_in c.args.program.now q (mode_of c.args.point.at.mode)) c.args.point.at)) (sym c.in-Trivia.is) c.trivia.ensures.lays
 
 pub returns-in-Skipped-clause-lays : goal.returns-in-Skipped-clause-lays
 returns-in-Skipped-clause-lays c = subst (λ q. OnOk c.plan_skipping.result (LaysAt c.args.program.now c.plan_skipping.new.self (task_in c.args.program.now q (mode_of c.args.point.at.mode)) c.args.point.at)) (sym c.in-Skipped.is) c.plan_skipping.ensures.lays
@@ -45,9 +45,9 @@ returns-in-Stay-clause-lays c = subst (λ q. OnOk c.stay_between.result (LaysAt 
 
 pub returns-in-Some-clause-lays : goal.returns-in-Some-clause-lays
 returns-in-Some-clause-lays c =
-    let within : c.in-Body.rule < length c.args.program.now.rows.items = grind (arith, common_steps) in
-    let is : c.in-Some.row.now ≡ get_or c.args.program.now.rows.items c.in-Body.rule c.in-Some.row.now = grind (arith, common_steps) in
-    let e = body_said c.args.program.now c.in-Body.rule c.in-Some.row.now within is in
+    let within : c.in-Body.rule < length c.args.program.now.rules.items = grind (arith, common_steps) in
+    let is : c.in-Some.program_rule.now ≡ get_or c.args.program.now.rules.items c.in-Body.rule c.in-Some.program_rule.now = grind (arith, common_steps) in
+    let e = body_said c.args.program.now c.in-Body.rule c.in-Some.program_rule.now within is in
     subst (λ q. OnOk c.form-in-Some.result (LaysAt c.args.program.now c.form-in-Some.new.self (task_in c.args.program.now q (mode_of c.args.point.at.mode)) c.args.point.at)) (sym c.in-Body.is)
     (subst (λ b. OnOk c.form-in-Some.result (LaysAt c.args.program.now c.form-in-Some.new.self (Run (mode_of c.args.point.at.mode) b) c.args.point.at)) (sym e) c.form-in-Some.ensures.lays)
 

@@ -11,6 +11,6 @@ pub returns-clause-lays : goal.returns-clause-lays
 returns-clause-lays c = λ classes fits code laid m.
     let p = c.args.program.now in
     let at = c.args.at in
-    lay.in_place (made p c.args.rule c.args.row.now c.requires.within c.requires.is) (meant_is p c.args.rule c.args.row.now c.requires.within c.requires.is c.requires.meant) c.requires.gives
-    (body_part p c.args.rule c.args.row.now c.requires.within c.requires.is c.requires.sound laid (mode_of at.mode) _ at.rank at.label at.next at.on_fail c.body_mode-mode.ensures
+    lay.in_place (made p c.args.rule c.args.program_rule.now c.requires.within c.requires.is) (meant_is p c.args.rule c.args.program_rule.now c.requires.within c.requires.is c.requires.meant) c.requires.gives
+    (body_part p c.args.rule c.args.program_rule.now c.requires.within c.requires.is c.requires.sound laid (mode_of at.mode) _ at.rank at.label at.next at.on_fail c.body_mode-mode.ensures
     (c.in_ok-point.ensures.has p code laid m))

@@ -12,7 +12,7 @@ pub returns-clause-lays : goal.returns-clause-lays
 returns-clause-lays c = λ classes fits code laid m.
     let m2 = (c.in_ok-operation-2.ensures.later c.args.program.now).met code laid m in
     let m1 = (c.in_ok-operation.ensures.later c.args.program.now).met code laid m2 in
-    lay.sub (made c.args.program.now c.args.rule c.args.row.now c.requires.within c.requires.is) _ _ (meant_is c.args.program.now c.args.rule c.args.row.now c.requires.within c.requires.is c.requires.meant) c.requires.gives
+    lay.sub (made c.args.program.now c.args.rule c.args.program_rule.now c.requires.within c.requires.is) _ _ (meant_is c.args.program.now c.args.rule c.args.program_rule.now c.requires.within c.requires.is c.requires.meant) c.requires.gives
     (c.in_ok-operation-2.ensures.met c.args.program.now code laid m)
-    (body_point c.args.program.now c.args.rule c.args.row.now c.requires.within c.requires.is c.requires.sound laid (mode_of c.args.at.mode) _ _ _ c.body_mode-inner.ensures (c.in_ok-to.ensures.has code laid m1))
+    (body_point c.args.program.now c.args.rule c.args.program_rule.now c.requires.within c.requires.is c.requires.sound laid (mode_of c.args.at.mode) _ _ _ c.body_mode-inner.ensures (c.in_ok-to.ensures.has code laid m1))
     (c.in_ok-operation.ensures.met c.args.program.now code laid m2)

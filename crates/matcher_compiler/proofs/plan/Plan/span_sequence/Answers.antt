@@ -3,7 +3,7 @@ use Rattle.base_language.specs.Language.Expression.{Seq}
 use Rattle.base_language.specs.Language.Meaning.{Run}
 use Rattle.matcher_code.specs.Laid as lay
 use Rattle.matcher_code.specs.Laid.{IsPart}
-use Rattle.matcher_code.proofs.Gaps.{gap_of}
+use Rattle.matcher_code.proofs.Trivia.{trivia_of}
 use Rattle.matcher_compiler.specs.Exact.{is_exact}
 use Rattle.matcher_compiler.proofs.Growing.{later_twice}
 use Rattle.matcher_compiler.proofs.Noting.{if_noted}
@@ -35,7 +35,7 @@ returns-clause-lays c = λ e takes classes fits code laid m.
     let right = subst (λ w. IsPart laid at.rank (Run (mode_of at.mode) b) c.args.fresh at.next w) r.on_fail (c.in_ok-point.ensures.has p code laid m) in
     subst (λ w. lay.Lays (is_exact code) g classes code (number_in g) laid at.rank (Run (mode_of at.mode) (Seq e b)) at.label at.next w) (sym r.on_fail)
     (lay.set_seq _ (r.tight classes)
-    (gap_of code (number_in g) m.fail (is_exact code) g classes (Run (mode_of at.mode) e) (Run (mode_of at.mode) b) c.in_ok-set.set c.in_ok-stops.stops
+    (trivia_of code (number_in g) m.fail (is_exact code) g classes (Run (mode_of at.mode) e) (Run (mode_of at.mode) b) c.in_ok-set.set c.in_ok-stops.stops
     c.args.ranges.items h.ranges.items x.characters h.noted at.label _ at.next c.in_ok-miss.miss (c.in_ok-operation.ensures.met p code laid m4)
     (c.in_ok-set.ensures.means p code laid m2) x.covers x.takes (c.in_ok-stops.ensures.means p code laid m3)
     (r.takes classes fits) (if_noted code h.noted _ _ (c.in_ok-miss.ensures.goes p code laid m1)) (c.in_ok-miss.ensures.goes p code laid m1) up) right)

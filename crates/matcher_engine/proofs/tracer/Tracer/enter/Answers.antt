@@ -2,7 +2,7 @@ use Rattle.std.proofs.Common.{◌≤◌, ◌∙◌, [], ◌∷◌, ap, arith, le
 use Rattle.std.proofs.lemmas.List.{take-append-le}
 use Rattle.matcher_code.specs.Steps.{open_call}
 use Rattle.matcher_engine.specs.Marks.{counts_of}
-use Rattle.matcher_engine.specs.Traces.{mark_of, slot_trace, trace_of}
+use Rattle.matcher_engine.specs.Traces.{mark_of, frame_trace, trace_of}
 use Rattle.matcher_engine.proofs.Marking.{marked_longer, traces_alike}
 use Rattle.matcher_engine.proofs.tracer.Tracer.enter.Goals as goal
 
@@ -19,6 +19,6 @@ returns-in_ok-push-clause-traces c =
     let t = c.args.self.now in
     let cs = t.calls.items in
     let l : length cs ≤ length cs = omega arith in
-    ap (λ xs. map (slot_trace (record (trace_of t) { calls = xs })) (reverse t.marks.items)) c.in_ok-push.ensures.items
+    ap (λ xs. map (frame_trace (record (trace_of t) { calls = xs })) (reverse t.marks.items)) c.in_ok-push.ensures.items
     ∙ traces_alike (counts_of (mark_of t)) (record (trace_of t) { calls = _ }) (trace_of t) (reverse t.marks.items) t.marked
-    (take-append-le (length cs) cs (open_call c.args.row c.args.at ∷ []) l, (refl, (refl, refl)))
+    (take-append-le (length cs) cs (open_call c.args.rule c.args.at ∷ []) l, (refl, (refl, refl)))

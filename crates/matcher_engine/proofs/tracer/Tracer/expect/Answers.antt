@@ -1,7 +1,7 @@
 use Rattle.std.proofs.Common.{◌≤◌, ◌∙◌, ap, arith, length, map, refl, reverse}
 use Rattle.std.proofs.lemmas.List.{length-map}
 use Rattle.matcher_engine.specs.Marks.{counts_of}
-use Rattle.matcher_engine.specs.Traces.{mark_of, paths_in, slot_trace, trace_of}
+use Rattle.matcher_engine.specs.Traces.{mark_of, paths_in, frame_trace, trace_of}
 use Rattle.matcher_engine.proofs.Marking.{marked_longer, path_added, traces_alike}
 use Rattle.matcher_engine.proofs.tracer.Tracer.expect.Goals as goal
 
@@ -19,6 +19,6 @@ returns-clause-traces c =
     let ps = paths_in t.paths.items in
     let n = length t.paths.items in
     let l : n ≤ length ps = omega (arith, length-map t.paths.items (λ v. v.items)) in
-    ap (λ vs. map (slot_trace (record (trace_of t) { paths = paths_in vs })) (reverse t.marks.items)) c.in_ok-push-2.ensures.items
+    ap (λ vs. map (frame_trace (record (trace_of t) { paths = paths_in vs })) (reverse t.marks.items)) c.in_ok-push-2.ensures.items
     ∙ traces_alike (counts_of (mark_of t)) (record (trace_of t) { paths = _ }) (trace_of t) (reverse t.marks.items) t.marked
     (refl, (path_added t.paths.items c.push.new.self n l, (refl, refl)))

@@ -2,7 +2,7 @@ use Rattle.std.proofs.Common.{◌≡◌, ◌∙◌, Some, ap, arith, length, map
 use Rattle.std.proofs.lemmas.List.{length-take-le}
 use Rattle.matcher_code.specs.Steps.{leave}
 use Rattle.matcher_engine.specs.Marks.{counts_of}
-use Rattle.matcher_engine.specs.Traces.{mark_of, own_trace, slot_trace, trace_of}
+use Rattle.matcher_engine.specs.Traces.{mark_of, own_trace, frame_trace, trace_of}
 use Rattle.matcher_engine.proofs.Marking.{cut_twice, marked_longer, traces_alike}
 use Rattle.matcher_engine.proofs.tracer.Tracer.leave.Goals as goal
 
@@ -24,5 +24,5 @@ pub returns-in-Some-clause-traces : goal.returns-in-Some-clause-traces
 returns-in-Some-clause-traces c =
     let t = c.args.self.now in
     let m = c.in-Some.mark in
-    ap (λ xs. map (slot_trace (record (trace_of t) { calls = xs })) (reverse t.marks.items)) c.truncate.ensures.items
+    ap (λ xs. map (frame_trace (record (trace_of t) { calls = xs })) (reverse t.marks.items)) c.truncate.ensures.items
     ∙ traces_alike (counts_of m) (record (trace_of t) { calls = _ }) (trace_of t) (reverse t.marks.items) c.in-Some.ensures.mark.1 (cut_twice m.calls t.calls.items, (refl, (refl, refl)))

@@ -1,7 +1,7 @@
 use Rattle.std.proofs.Common.{◌≡◌, ◌∙◌, ap, ap₂, arith, length, map, refl, reverse}
 use Rattle.std.proofs.lemmas.List.{length-take-le}
 use Rattle.matcher_engine.specs.Marks.{counts_of}
-use Rattle.matcher_engine.specs.Traces.{mark_of, slot_trace, trace_of}
+use Rattle.matcher_engine.specs.Traces.{mark_of, frame_trace, trace_of}
 use Rattle.matcher_engine.proofs.Marking.{cut_twice, marked_longer, traces_alike}
 use Rattle.matcher_engine.proofs.tracer.Tracer.record_end.Goals as goal
 
@@ -24,7 +24,7 @@ returns-clause-traces c =
     let t = c.args.self.now in
     let m = c.args.before in
     c.in_ok-push_attempt.ensures.traces
-    ∙ (ap₂ (λ xs ys. map (slot_trace (record (trace_of t) { attempts = record { furthest = c.max-self.result; positives = xs; negatives = ys } })) (reverse t.marks.items))
+    ∙ (ap₂ (λ xs ys. map (frame_trace (record (trace_of t) { attempts = record { furthest = c.max-self.result; positives = xs; negatives = ys } })) (reverse t.marks.items))
     c.truncate.ensures.items c.truncate-2.ensures.items
     ∙ traces_alike (counts_of m) (record (trace_of t) { attempts = record { furthest = c.max-self.result; positives = _; negatives = _ } }) (trace_of t) (reverse t.marks.items) c.requires.marked
     (refl, (refl, (cut_twice m.positives t.positives.items, cut_twice m.negatives t.negatives.items))))

@@ -2,7 +2,7 @@ use Rattle.std.proofs.Common.{◌≡◌, ◌∙◌, Some, ap, ap₂, arith, leng
 use Rattle.std.proofs.lemmas.List.{length-take-le}
 use Rattle.matcher_code.specs.Steps.{restore}
 use Rattle.matcher_engine.specs.Marks.{counts_of}
-use Rattle.matcher_engine.specs.Traces.{mark_of, own_trace, paths_in, slot_trace, trace_of}
+use Rattle.matcher_engine.specs.Traces.{mark_of, own_trace, paths_in, frame_trace, trace_of}
 use Rattle.matcher_engine.proofs.Marking.{cut_twice, marked_longer, paths_cut, traces_alike}
 use Rattle.matcher_engine.proofs.tracer.Tracer.restore.Goals as goal
 
@@ -32,7 +32,7 @@ pub returns-in-Some-clause-traces : goal.returns-in-Some-clause-traces
 returns-in-Some-clause-traces c =
     let t = c.args.self.now in
     let m = c.in-Some.mark in
-    ap₂ (λ xs ys. map (slot_trace (record (trace_of t) { calls = xs; paths = ys; below = m.below })) (reverse t.marks.items)) c.truncate.ensures.items
+    ap₂ (λ xs ys. map (frame_trace (record (trace_of t) { calls = xs; paths = ys; below = m.below })) (reverse t.marks.items)) c.truncate.ensures.items
     (ap paths_in c.truncate-in-Some.ensures.items ∙ paths_cut m.paths t.paths.items)
     ∙ traces_alike (counts_of m) (record (trace_of t) { calls = _; paths = _; below = m.below }) (trace_of t) (reverse t.marks.items) c.in-Some.ensures.mark.1
     (cut_twice m.calls t.calls.items, (cut_twice m.paths (paths_in t.paths.items), (refl, refl)))

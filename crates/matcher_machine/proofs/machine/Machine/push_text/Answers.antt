@@ -6,7 +6,7 @@ use Rattle.matcher_machine.proofs.machine.Machine.push_text.Goals as goal
 pub invariant_of-self : goal.invariant_of-self
 invariant_of-self c =
     let m = c.args.self.now in
-    record { held = held_longer _ _ (reverse m.slots.items) c.push.ensures.grows m.held; named = m.named; few = m.few }
+    record { held = held_longer _ _ (reverse m.frames.items) c.push.ensures.grows m.held; named = m.named; few = m.few }
 
 pub returns : goal.returns
 returns c code text pc =

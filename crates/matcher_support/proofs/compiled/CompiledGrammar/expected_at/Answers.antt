@@ -4,7 +4,7 @@ use Rattle.base_language.specs.Language.Expected.{expected_at}
 use Rattle.base_language.specs.Language.State.{State}
 use Rattle.matcher_compiler.proofs.Numbering.{expected_have}
 use Rattle.matcher_engine.proofs.Results.{first_state}
-use Rattle.matcher_engine.proofs.Rows.{have_once, rows_once}
+use Rattle.matcher_engine.proofs.RuleNumbers.{have_once, rules_once}
 use Rattle.matcher_engine.specs.BlockRuns.{AreExpected, IsRefusal}
 use Rattle.matcher_program.specs.ExpectedNames.{each_once, name_texts}
 use Rattle.matcher_support.specs.Sets.{is_in_property}
@@ -24,11 +24,11 @@ pub returns-in-Ok-names_of-clause-expected : goal.returns-in-Ok-names_of-clause-
 returns-in-Ok-names_of-clause-expected c = λ g of.
     let n = chars c.args.rule.now in
     let s = first_state c.start_pos-start.result c.args.text.now (c.start_pos-start.ensures.text ∙ c.of.ensures.text) (c.start_pos-start.ensures.place ∙ c.of.ensures.start) in
-    let P : State → Type 0 = λ t. AreExpected g n t is_in_property c.args.steps c.args.place c.in-Ok-expected_block.rows.items in
+    let P : State → Type 0 = λ t. AreExpected g n t is_in_property c.args.steps c.args.place c.in-Ok-expected_block.rules.items in
     let y = subst P s (c.in-Ok-expected_block.ensures.expected g is_in_property of.code n (c.in-Ok.ensures.found g of)) in
     let ns = expected_at c.args.place y.1 in
     let have = expected_have g c.args.place y.1 in
-    (y.0, y.1, c.in-Ok-names_of.ensures g (ap name_texts c.deref.ensures.value ∙ of.names) (each_once ns) (c.deref-in-Ok-expected_block.ensures.value ∙ (y.2 ∙ rows_once g ns have)) (have_once g ns have))
+    (y.0, y.1, c.in-Ok-names_of.ensures g (ap name_texts c.deref.ensures.value ∙ of.names) (each_once ns) (c.deref-in-Ok-expected_block.ensures.value ∙ (y.2 ∙ rules_once g ns have)) (have_once g ns have))
 
 pub returns-clause-refused : goal.returns-clause-refused
 returns-clause-refused c = λ g of.

@@ -9,8 +9,8 @@ visits-preserved c =
     one_more _ _ _ _ _ _ next c.in_ok-add_visit.ensures c.visits.invariant
 
 pub returns : goal.returns
-returns c = λ row us e.
+returns c = λ rule us e.
     let start : Tagging = record { entries = []; open_trees = [] } in
     let last = rw c.in_default.is at c.in_ok-visit.ensures in
     let s = tagging_of c.visits.tagged.items c.visits.tags.items in
-    ap (λ k. k.entries) (ap (λ vs. with_visits vs s) (sym last) ∙ (c.visits.invariant ∙ (ap (λ vs. with_visits vs start) e ∙ tags_of row us)))
+    ap (λ k. k.entries) (ap (λ vs. with_visits vs s) (sym last) ∙ (c.visits.invariant ∙ (ap (λ vs. with_visits vs start) e ∙ tags_of rule us)))

@@ -1,7 +1,0 @@
-use Rattle.std.proofs.Common.{◌∙◌, ap, sym}
-use Rattle.pest_run.specs.Paths.{expected_row}
-use Rattle.pest_run.proofs.PathTexts.{last_row}
-use Rattle.pest_run.proofs.paths.expected_row.Goals as goal
-
-pub returns-in-Some : goal.returns-in-Some
-returns-in-Some c = sym (ap expected_row c.in-Some.ensures.cases.0 ∙ last_row c.in-Some.field-0-1.now c.in-Some.call.now)
