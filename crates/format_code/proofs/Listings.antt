@@ -17,7 +17,7 @@ pub sets_are : (rs : List RangeList)
 sets_are [] = refl
 sets_are (r ∷ rs) = ap₂ (λ s ss. s ∷ ss) (one_set r.ranges.items r.is_sorted r.sorted) (sets_are rs)
 
-pub lists_same : (a b : CodeLists) → a.ops ≡ b.ops → a.rules ≡ b.rules → a.sets ≡ b.sets → a.tables ≡ b.tables
+pub lists_same : (a b : CodeLists) → a.ops ≡ b.ops → a.byte_sets ≡ b.byte_sets → a.sets ≡ b.sets → a.tables ≡ b.tables
     → a.texts ≡ b.texts → a.lists ≡ b.lists → a ≡ b
 lists_same a b o r s t w l =
-    λ i. record { ops = o i; rules = r i; sets = s i; tables = t i; texts = w i; lists = l i }
+    λ i. record { ops = o i; byte_sets = r i; sets = s i; tables = t i; texts = w i; lists = l i }

@@ -212,7 +212,7 @@ macro_rules! all_fused {
     };
 }
 
-// Rows of sets, by the bits of the characters of ASCII.
+// Byte sets, by the bits of the characters of ASCII.
 macro_rules! byte_sets {
     ($(
         $byte0:literal $byte1:literal $byte2:literal $byte3:literal $byte4:literal $byte5:literal

@@ -62,7 +62,7 @@ last_mapped p xs ys x n e h =
     rw (e, map-append) (ap (λ i. get_or (map p xs ++ p x ∷ []) i no_characters) (sym l) ∙ get_or-append_seam (map p xs) (p x) [] no_characters)
 
 -- a set whose byte_set was added behind the others
-pub set_added : (new : CodeLists) (sets byte_set : List ℕ) (ranges : List (ℕ × ℕ)) (set : ℕ) → new.sets ≡ sets ++ byte_set
+pub set_added : (new : CodeLists) (sets byte_set : List ℕ) (ranges : List (ℕ × ℕ)) (set : ℕ) → new.byte_sets ≡ sets ++ byte_set
     → length sets ≡ set * 256 → IsByteSetOf ranges byte_set → set_of new set ≡ is_covered ranges → IsSetOf new set ranges
 set_added new sets byte_set ranges set e l w r =
     means_ranges new set ranges r (λ b h.

@@ -25,10 +25,10 @@ same_ranges (x ∷ xs) (y ∷ ys) e =
     let k = and_parts (nat_eq x.0 y.0 && nat_eq x.1 y.1) (pointwise (λ x y. nat_eq x.0 y.0 && nat_eq x.1 y.1) xs ys) e in
     ap₂ (λ a b. a ∷ b) (same_range x y k.0) (same_ranges xs ys k.1)
 
--- a program with the same program rules and ranges
-pub same_sets : (old new : Code) → new.rules.items ≡ old.rules.items → new.ranges.items ≡ old.ranges.items → KeepsSets old new
+-- a program with the same byte sets and ranges
+pub same_sets : (old new : Code) → new.byte_sets.items ≡ old.byte_sets.items → new.ranges.items ≡ old.ranges.items → KeepsSets old new
 same_sets old new e f set b bs h k =
-    ap₂ (λ program_rules ranges. if nat_lt 4 (get_or program_rules (set * 256 + b) 0) then wide_len (get_or (map (λ v. is_covered v.ranges.items) ranges) set no_characters) (b ∷ bs) else get_or program_rules (set * 256 + b) 0) e f
+    ap₂ (λ byte_sets ranges. if nat_lt 4 (get_or byte_sets (set * 256 + b) 0) then wide_len (get_or (map (λ v. is_covered v.ranges.items) ranges) set no_characters) (b ∷ bs) else get_or byte_sets (set * 256 + b) 0) e f
 
 -- a program with more sets
 known_on : (old new : Code) → length old.ranges.items ≤ length new.ranges.items → KeepsSets old new → (x : KnownSet)

@@ -45,7 +45,7 @@ fn empty_code(alloc: Global) -> Code
 {
     Code {
         ops: Vec::new(alloc),
-        program_rules: Vec::new(alloc),
+        byte_sets: Vec::new(alloc),
         ranges: Vec::new(alloc),
         tables: Vec::new(alloc),
         texts: Vec::new(alloc),
@@ -327,7 +327,7 @@ fn finish(alloc: Global, plan: Plan<'_>) -> Result<Code, NotCompiled>
     let ops = write(alloc, &demands)?;
     let Code {
         ops: _,
-        program_rules,
+        byte_sets,
         ranges,
         tables: _,
         texts: _,
@@ -337,13 +337,13 @@ fn finish(alloc: Global, plan: Plan<'_>) -> Result<Code, NotCompiled>
         alloc,
         ops,
         size / TABLE_SIZE,
-        &program_rules,
+        &byte_sets,
         &texts,
         &demands,
     )?;
     let code = Code {
         ops,
-        program_rules,
+        byte_sets,
         ranges,
         tables,
         texts,

@@ -164,7 +164,7 @@ program_sound g ps rs white blank e program_rules w c =
     let m = rules_mean g rs e in
     let n = numbers_named (names_in g) g rs e in
     record {
-      program_rules = λ i d l. subst (λ h. IsProgramRule h (names_of rs) ps (get_or rs i d)) (sym m) (subst (λ N. IsProgramRule g N ps (get_or rs i d)) (sym n) (program_rules i d l));
+      rules = λ i d l. subst (λ h. IsProgramRule h (names_of rs) ps (get_or rs i d)) (sym m) (subst (λ N. IsProgramRule g N ps (get_or rs i d)) (sym n) (program_rules i d l));
       whitespace_is = subst (λ h. IsSkippedRule h whitespace white) (sym m) w;
       comment_is = subst (λ h. IsSkippedRule h comment blank) (sym m) c;
     }

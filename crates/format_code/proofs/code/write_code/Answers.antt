@@ -13,7 +13,7 @@ returns c =
     let bytes = c.in_ok-bytes.bytes.items in
     let at = c.in_ok-bytes.ensures in
     let ops = at 0 (lit< tt) ∙ (c.as_flattened-2.ensures.value ∙ ap (flat_map (λ x. x)) (c.as_flattened.ensures.value ∙ ap (flat_map (λ x. x)) c.deref-7.ensures.value)) in
-    let rules = at 1 (lit< tt) ∙ c.as_slice.ensures.value in
+    let byte_sets = at 1 (lit< tt) ∙ c.as_slice.ensures.value in
     let tables = at 2 (lit< tt) ∙ (c.as_flattened-3.ensures.value ∙ ap (flat_map (λ x. x)) c.deref-8.ensures.value) in
     let set_places = at 3 (lit< tt) ∙ c.as_slice-2.ensures.value in
     let ranges = at 4 (lit< tt) ∙ c.as_slice-3.ensures.value in
@@ -27,7 +27,7 @@ returns c =
     let all_lists = c.in_ok-lists.ensures ∙ ap (map (λ l. l.items)) c.deref-6.ensures.value in
     lists_same (lists_at bytes) (lists_of code)
     (ap ops_in ops ∙ (c.in_ok-ops.ensures ∙ c.deref.ensures.value))
-    rules
+    byte_sets
     (ap₂ sets_in orders (ap₂ (λ ps rs. parts_in (words_in ps) (pairs_in rs)) set_places ranges ∙ all_ranges)
     ∙ sets_are code.ranges.items)
     (ap words_in tables ∙ (c.in_ok-tables.ensures ∙ c.deref-2.ensures.value))

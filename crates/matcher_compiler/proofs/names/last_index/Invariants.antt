@@ -5,8 +5,8 @@ use Rattle.matcher_compiler.proofs.names.last_index.Given as goal
 
 abbrev pub invariant-loop-below : goal.invariant-loop-below
 invariant-loop-below l = record {
-  within : l.below ≤ length l.rules;
-  none : last_place (drop l.below (grammar_of l.rules)) (chars l.name) ≡ None;
+  within : l.below ≤ length l.program_rules;
+  none : last_place (drop l.below (grammar_of l.program_rules)) (chars l.name) ≡ None;
 }
 
 abbrev pub decreases-loop-below : goal.decreases-loop-below

@@ -7,14 +7,14 @@ use Rattle.matcher_compiler.proofs.names.last_program_rules.Given as goal
 
 abbrev pub invariant-loop-below : goal.invariant-loop-below
 invariant-loop-below l = record {
-  within : l.below ≤ length l.rules;
-  long : length l.lasts.items ≡ length l.rules;
+  within : l.below ≤ length l.program_rules;
+  long : length l.lasts.items ≡ length l.program_rules;
   none : (name : List ℕ) → IsUtf8 name → get_by_text l.later name ≡ None
-      → last_place (drop l.below (grammar_of l.rules)) (chars name) ≡ None;
+      → last_place (drop l.below (grammar_of l.program_rules)) (chars name) ≡ None;
   found : (name : List ℕ) (i : ℕ) → IsUtf8 name → get_by_text l.later name ≡ Some i
-      → last_place (grammar_of l.rules) (chars name) ≡ Some i;
-  last : (i : ℕ) → l.below ≤ i → i < length l.rules
-      → last_place (grammar_of l.rules) (name_at (names_of l.rules) i) ≡ Some (get_or l.lasts.items i 0);
+      → last_place (grammar_of l.program_rules) (chars name) ≡ Some i;
+  last : (i : ℕ) → l.below ≤ i → i < length l.program_rules
+      → last_place (grammar_of l.program_rules) (name_at (names_of l.program_rules) i) ≡ Some (get_or l.lasts.items i 0);
 }
 
 abbrev pub decreases-loop-below : goal.decreases-loop-below
