@@ -14,7 +14,7 @@ token_links _ = []
 abbrev pub links_of : List Markup → List ℕ
 links_of = flat_map token_links
 
--- tokens that link to the first so many rules alone
+-- tokens that link to the first rules alone, of a given number
 abbrev pub AreLinksWithin : ℕ → List Markup → Type 0
 AreLinksWithin n tokens = All (λ r. r < n) (links_of tokens)
 

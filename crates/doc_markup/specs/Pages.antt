@@ -100,7 +100,7 @@ pub data AreDefinitions : Grammar → List ℕ → Type 0 where
       → AreDefinitions rules bytes
       → AreDefinitions (rules ++ r ∷ []) (bytes ++ definition_bytes r body)
 
--- links to so many rules: to each in order, and to each once more
+-- links to a given number of rules: to each in order, and to each once more
 abbrev pub AreIndexLinks : ℕ → List ℕ → Type 0
 AreIndexLinks count links = (others : List ℕ) × IsPermutation (range_with_len 0 count) others
     × (links ≡ range_with_len 0 count ++ others)

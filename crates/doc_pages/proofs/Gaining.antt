@@ -34,7 +34,7 @@ one_section_more names rules others r before after old page new first last gaine
       step ∙ ap (λ t. t ++ section) gained.2 ∙ append_assoc old gained.0 section,
     )
 
--- names are as many as rules
+-- there is a name for each rule
 pub same_length : (names : List (Bor (List ℕ))) (rules : List code.Rule) → AreNames (rules_of rules) names
     → length names ≡ length rules
 same_length names rules are =

@@ -129,7 +129,7 @@ facts_more n fs gs f e h k =
     All-same (λ g. All (λ r. r < n) g.callers.items) gs (fs ++ f ∷ []) e
     (All-push (λ g. All (λ r. r < n) g.callers.items) fs f h k)
 
--- rules without spans are as many
+-- there is a rule without spans for each rule
 pub erased_length : (rs : List code.Rule) (spanned : List ParserRule) → rules_of rs ≡ rules_without_spans (rule_views spanned)
     → length rs ≡ length spanned
 erased_length rs spanned e =

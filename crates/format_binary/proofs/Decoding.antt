@@ -139,7 +139,7 @@ node next b bs =
     (cond (b == 19) (around (λ x. e.NodeTag x (chars (text_in bs))) (next (after_text bs)))
     (around e.RestoreOnErr (next bs)))))))))))))))))
 
--- in at most so many nodes
+-- in at most a given number of nodes
 abbrev decode : ℕ → List ℕ → Decoded
 decode zero bs = (e.Str [], bs)
 decode (suc k) [] = (e.Str [], [])

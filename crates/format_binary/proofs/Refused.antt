@@ -87,7 +87,7 @@ module _ {A : Type 0} (item : A → List ℕ) where
       let eight = size_long (length xs) in
       omega (arith, short, whole, parts, part, eight)
 
-  -- the bytes behind a count are those of so many items, and what is behind them
+  -- the bytes behind a count are those of a given number of items, and what is behind them
   pub list_behind : (old new : List ℕ) (n : ℕ) → n < 2 ^ 64 → old ≡ size_bytes n ++ new → (xs : List A) (t : List ℕ) → length xs < 2 ^ 64 → old ≡ list_bytes item xs ++ t
       → (length xs ≡ n) × (new ≡ flat_map item xs ++ t)
   list_behind old new n small e xs t less f =
@@ -119,7 +119,7 @@ pub texts_behind : (old new : List ℕ) (n : ℕ) → n < 2 ^ 64 → old ≡ siz
     → (length ss.items ≡ n) × (new ≡ flat_map item_bytes ss.items ++ t)
 texts_behind old new n small e ss t f = list_behind item_bytes old new n small e ss.items t (omega (arith, ss.ok, ss.small)) f
 
--- bytes of so many texts, of which one cannot be read
+-- bytes of a given number of texts, of which one cannot be read
 pub text_left_wrong : {W : Type 0} (old rest : List ℕ) (n k : ℕ) → k < n → ((ss : Texts) (t : List ℕ) → old ≡ list_bytes item_bytes ss.items ++ t → (length ss.items ≡ n) × (rest ≡ flat_map item_bytes (drop k ss.items) ++ t))
     → (W → BeginsWithText rest → ⊥) → W → BeginsWithTexts old → ⊥
 text_left_wrong old rest n k l left wrong w b =

@@ -62,7 +62,7 @@ OperandsFollow (first.One op) bytes rest =
 OperandsFollow (first.Two op) bytes rest = (x : OptimizedExpr) × (y : OptimizedExpr)
     × (bytes ≡ optimized_expression_bytes x ++ (optimized_expression_bytes y ++ rest))
 
--- so many expressions are next, and then other bytes
+-- a given number of expressions are next, and then other bytes
 abbrev pub ExpressionsFollow : ℕ → List ℕ → List ℕ → Type 0
 ExpressionsFollow zero bytes rest = bytes ≡ rest
 ExpressionsFollow (suc n) bytes rest = (x : OptimizedExpr) × (more : List ℕ)

@@ -11,7 +11,8 @@ use Rattle.matcher_code.proofs.SetLemmas.{means_ranges}
 use Rattle.front_code.specs.Codes.{IsExactCode, IsFastCode, exact_ops, exact_sets, fast_ops, fast_sets, texts}
 use Rattle.front_code.specs.declared.constants.TheConstants.{EXACT_ORDERS, EXACT_BYTE_SETS, FAST_ORDERS, FAST_BYTE_SETS, FAST_TABLES}
 
--- whether so many flags from a byte on are those of ranges; whether byte_sets have the flags of lists of ranges
+-- whether a given number of flags from a byte on are those of ranges; whether byte_sets have the flags of
+-- lists of ranges
 abbrev has_flags : ℕ → List (ℕ × ℕ) → ℕ → List ℕ → Bool
 has_flags zero ranges b byte_set = true
 has_flags (suc n) ranges b [] = false

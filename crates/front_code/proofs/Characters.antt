@@ -93,7 +93,7 @@ abbrev pub behind : ℕ → List (ℕ × ℕ) → ℕ
 behind p [] = p
 behind p (x ∷ r) = if is_between x.0 x.1 p then suc x.1 else behind p r
 
--- whether ranges have all characters from a number on, which so many of them show
+-- whether ranges have all characters from a number on, which a given number of them show
 abbrev pub has_all : ℕ → ℕ → List (ℕ × ℕ) → Bool
 has_all zero p r = nat_le 1114112 p
 has_all (suc n) p r = has_all n (behind p r) r

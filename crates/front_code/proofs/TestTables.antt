@@ -73,7 +73,7 @@ module _ (code : CodeLists) (os : List Op) (rs : List (List (ℕ × ℕ))) (ts :
   entries noted p table [] = true
   entries noted p table (k ∷ ks) = get_or table k 0 == bit noted + p * 2 && entries noted p table ks
 
-  -- so are they of the operations after the tests of those bytes, of so many tests at most
+  -- so are they of the operations after the tests of those bytes, of at most a given number of tests
   unfoldable pub by_kind : {o : Op} → Kind o → (Bool → ℕ → List ℕ → Bool) → Bool → ℕ → List ℕ → List ℕ → Bool
   by_kind (tests set next fail) goes noted p table ks =
       nat_lt set (length rs) && (goes noted next (filter (in_set set) ks) && goes noted fail (filter (λ i. not (in_set set i)) ks))

@@ -234,7 +234,7 @@ module _ (limit : ℕ) (skips : Bool) (named : Text → AbstractStack → Readin
   reading (NodeTag e t) a = reading e a
   reading (RestoreOnErr e) a = reading e a
 
--- calls are followed, so many deep at most, but not those of rules that are `recursive`
+-- calls are followed, at most to a given depth, but not those of rules that are `recursive`
 module _ (limit : ℕ) (skips : Bool) (recursive : Text → Bool) (g : Grammar) where
   abbrev pub rule_reading :
       Text → Option Rule → (Expression → AbstractStack → Reading) → AbstractStack → Reading
@@ -256,7 +256,7 @@ lands (Some b) None true starts f =
     else f (b.marks ∷ []) (made_intact b)
 lands _ _ _ starts f = false
 
--- so many turns of it, from a start and the marks of those before
+-- a given number of turns of it, from a start and the marks of those before
 abbrev pub loops_within : (AbstractStack → Reading) → ℕ → List (List Bool) → AbstractStack → Bool
 loops_within step zero starts a = false
 loops_within step (suc k) starts a =

@@ -80,7 +80,7 @@ pub data Route : Type 0 where
   Inner : Route → Route
   Turn : ℕ → Route → Route
 
--- so many of these copies or turns come before one more
+-- a given number of these copies or turns come before one more
 abbrev pub HasTurn : List Copy → ℕ → Type 0
 HasTurn [] i = ⊥
 HasTurn (Required ∷ cs) zero = ⊤
@@ -145,7 +145,7 @@ module _ (step : Expression → AbstractStack → Reading) where
 
 -- where matching goes
 module _ (g : Grammar) (classes : Classes) (m : Mode) where
-  -- after so many copies or turns from one state, the next one starts from another
+  -- after a given number of copies or turns from one state, the next one starts from another
   pub data TurnAt (e : Expression) : List Copy → ℕ → State → State → Type 0 where
     now : {c : Copy} {cs : List Copy} {s : State} → TurnAt e (c ∷ cs) 0 s s
     after_required : {cs : List Copy} {i : ℕ} {s t u v : State} {us vs : Trees}

@@ -8,7 +8,7 @@ use Rattle.front_stack_domain.specs.Walks.{turned}
 abbrev pub HasFewMarks : AbstractStack → Type 0
 HasFewMarks a = length a.marks ≤ 8
 
--- so many stacks have eight marks at most: three bases, 511 lists of marks, and the flag
+-- the number of stacks with at most eight marks: three bases, 511 lists of marks, and the flag
 abbrev pub most_stacks : ℕ
 most_stacks = 3 * 511 * 2
 

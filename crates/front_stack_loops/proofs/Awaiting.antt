@@ -70,8 +70,7 @@ effort_all m (suc i) j n h l =
           subst (λ k. n * (effort m k + 1) < effort m (suc i)) (sym a) f
     ]
 
--- there is something to do for a node, and more than for two of lower levels, or for as many readings of one as
--- there can be
+-- there is something to do for a node, and more than for two of lower levels, or for all readings of one
 pub some_effort : (t : Table) (node : ℕ) → 0 < effort_of t node
 some_effort t node = effort_some (most_readings t) (level t node)
 

@@ -97,7 +97,7 @@ module _ (ns : List PassNode) (roots : List ℕ) where
   back_by_leader leaders reached returning r down up h (inl e) = subst (λ z. LeadsFrom ns roots z r) e (down r h)
   back_by_leader leaders reached returning r down up h (inr e) = trans r (leader_in leaders r) r (up r e) (down r h)
 
--- of so many rules those whose flag is set reach themselves
+-- of a given number of rules those whose flag is set reach themselves
 pub record AreBack (ns : List PassNode) (roots : List ℕ) (count : ℕ) (flags : List Bool) : Type 0 where
   pub told : length flags ≡ count
   pub right : (r : ℕ) → slice_get flags r ≡ Some true → LeadsBack ns roots r

@@ -67,7 +67,7 @@ AreAnswers q ns roots flags = (i : ℕ) (n : PassNode) → slice_get ns i ≡ So
 abbrev pub Holds : Question → List PassNode → List ℕ → ℕ → Type 0
 Holds q ns roots = Follows (answer q roots) ns
 
--- as many flags as nodes, and each flag is right
+-- a flag for each node, and each flag is right
 abbrev pub AreSound : Question → List PassNode → List ℕ → List Bool → Type 0
 AreSound q ns roots = least.AreSound (answer q roots) ns
 

@@ -48,7 +48,7 @@ pub record IsForeseen (items : List Walk) (w : says.Walk) (left : ℕ) (v : Walk
   pub trace : (f : says.Walk → says.Walk) (start : says.Walk) → IsRun f start items w
       → IsTrace f (length items + left) start items
 
--- so many copies were followed
+-- a given number of copies were followed
 pub record Follows (t : Table) (old new : Memory) (body : ℕ) (required : Bool) (count : ℕ) (w : says.Walk)
     (items : List Walk) (v : Walk) : Type 0 where
   pub value : (meaning : Meaning) → IsMeaning t meaning → IsRight meaning old → walk_of v

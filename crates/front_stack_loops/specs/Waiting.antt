@@ -72,8 +72,8 @@ abbrev pub next_reading : Meaning → ReadTask → says.Reading
 next_reading meaning (next.Read node s) = meaning node (stack_of s)
 next_reading meaning (next.Done r) = reading_of r
 
--- how much there is to do for a node of a level: more than for two of lower levels, or for so many readings
--- of one of them
+-- how much there is to do for a node of a level: more than for two of lower levels, or for a given number of
+-- readings of one of them
 unfoldable pub effort : ℕ → ℕ → ℕ
 effort readings zero = 3
 effort readings (suc n) = (readings + 3) * (effort readings n + 1)
@@ -81,7 +81,7 @@ effort readings (suc n) = (readings + 3) * (effort readings n + 1)
 abbrev pub effort_of : Table → ℕ → ℕ
 effort_of t node = effort (most_readings t) (level t node)
 
--- for so many readings of a node, and what they lead to
+-- for a given number of readings of a node, and what they lead to
 abbrev pub effort_times : Table → ℕ → ℕ → ℕ
 effort_times t node n = n * (effort_of t node + 1)
 
@@ -133,8 +133,8 @@ pub record IsPut (ws vs : List Waiting) (node : ℕ) (s : Stack) (a : Awaited) (
   pub items : vs ≡ ws ++ record { node = node; stack = s; awaited = a } ∷ []
   pub next : q ≡ next.Read operand s
 
--- a repetition goes on, of which this is known; the current task leads to its reading, and at most so many
--- readings of its body are left to do
+-- a repetition goes on, of which this is known; the current task leads to its reading, and at most a given
+-- number of readings of its body are left to do
 pub record GoesOn (t : Table) (old new : Memory) (node : ℕ) (s : Stack) (Known : Meaning → Type 0)
     (body readings : ℕ) (ws vs : List Waiting) (q : ReadTask) : Type 0 where
   pub right : (meaning : Meaning) → IsMeaning t meaning → IsRight meaning old → Known meaning

@@ -120,7 +120,7 @@ size-joined : (us vs : Trees) → length (sizes_of (joined us vs)) ≡ length (s
 size-joined None' vs = omega arith
 size-joined (Tree r i j inner others) vs = omega (arith, size-joined others vs)
 
--- there are as many trees as the list has
+-- the number of trees is that of the list
 count_named : (trees : List (TokenTree Rule)) → length (sizes_of (named_trees_of trees)) ≡ length trees
 count_named [] = refl
 count_named (tree ∷ trees) =

@@ -16,7 +16,7 @@ abbrev pub other_sizes : ℕ → List ℕ → List ℕ
 other_sizes n [] = []
 other_sizes n (s ∷ ss) = if nat_eq n 0 then s ∷ ss else other_sizes (n - s) ss
 
--- so many of the first trees, and the trees after those
+-- a given number of the first trees, and the trees after those
 abbrev pub first_trees : ℕ → Trees → Trees
 first_trees zero us = None'
 first_trees (suc n) None' = None'
@@ -27,7 +27,7 @@ other_trees zero us = us
 other_trees (suc n) None' = None'
 other_trees (suc n) (Tree r i j inner others) = other_trees n others
 
--- the tree of a node, with so many of the trees after it inside it, and the others after it
+-- the tree of a node, with a given number of the trees after it inside it, and the others after it
 abbrev pub tree_around : TreeNode → ℕ → Trees → Trees
 tree_around t n us =
     Tree (name_of (rule_numbered t.rule)) t.start t.end (first_trees n us) (other_trees n us)

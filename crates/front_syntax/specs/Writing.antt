@@ -21,11 +21,11 @@ abbrev pub GoesOn : ℕ → List Open → Type 0
 GoesOn k [] = ⊤
 GoesOn k (t ∷ ts) = nat_le t.after k ≡ false
 
--- the tree of a node, where so many events are before its own
+-- the tree of a node, where a given number of events are before its own
 abbrev pub opened : TreeNode → ℕ → Open
 opened t n = record { first = n; end = t.end; after = t.after }
 
--- the first event of the node of a number, after so many events
+-- the first event of the node of a number, after a given number of events
 abbrev pub start_event : TreeNode → ℕ → ℕ → TokenEvent
 start_event t k n = Starts (name_of (rule_numbered t.rule)) t.start (n + 1 + 2 * (t.after - suc k))
 

@@ -47,7 +47,7 @@ pub record IsFixed (takes : Bool) (text next : List ℕ) : Type 0 where
   pub read_again : IsErrorOf next left
   pub further : IsFurther error fix left
 
--- so many fixes, one after another
+-- a given number of fixes, one after another
 pub data AreFixed (takes : Bool) (text : List ℕ) : ℕ → List ℕ → Type 0 where
   none : AreFixed takes text 0 text
   more : (count : ℕ) (earlier last : List ℕ) → AreFixed takes text count earlier → IsFixed takes earlier last

@@ -8,7 +8,7 @@ use Rattle.lint_patterns.specs.declared.copies.Branches.TheVariants as is
 use Rattle.front_spanned.specs.Nodes.{view}
 use Rattle.front_spanned.specs.Spanned.{Binary, Span, Spanned, Leaf, One, Two, Unary, span_of}
 
--- a node has these operands, of one so many copies
+-- a node has these operands, of one a given number of copies
 abbrev pub HasBranches : Spanned → Branches → Type 0
 HasBranches v is.None = (s : Span) × (e : Expression) × (v ≡ Leaf s e)
 HasBranches v (is.One x n) = (s : Span) × (f : Unary) × (v ≡ One s f (view x.now)) × (n ≡ copies_by f)

@@ -18,7 +18,7 @@ use Rattle.base_language.proofs.TreesAreNested.{fits}
 use Rattle.matcher_code.specs.Reached.{IsAt}
 use Rattle.matcher_code.proofs.Leaves.{bytes_left}
 
--- a text of so many bytes
+-- a text of a given number of bytes
 abbrev some_text : ℕ → Text
 some_text n = replicate n 97
 
@@ -64,7 +64,7 @@ pub record IsBetween (text : List ℕ) (s t : State) (at : ℕ) : Type 0 where
   pub valid : scalars front ≡ true
   pub bytes : take (t.position - at) (drop at text) ≡ encode_utf8_all front
 
--- a place is one of a text of as many bytes
+-- a place is one of a text of that length
 pub stands_in : {stack : List (List ℕ)} (text : List ℕ) (s : State) (at : ℕ) → IsAt text s at stack → (whole : Text) × IsStateIn whole s × (size_of whole ≡ length text)
 stands_in text s at h =
     let whole = some_text s.position ++ s.rest in

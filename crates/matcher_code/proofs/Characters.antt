@@ -1,4 +1,4 @@
--- Expressions that match one character of a set, and as many as there are.
+-- Expressions that match one character of a set, and all that there are.
 use Rattle.std.proofs.Common.{◌≡◌, refl, sym, ◌∙◌, ap, subst, ℕ, zero, suc, ◌+◌, ◌≤◌, List, [], ◌∷◌, Bool, true, false, ◌&&◌, ◌||◌, Some, arith, add-zero, length, take, drop, if◌then◌else◌, ap₂}
 use Rattle.std.specs.Prelude.{not}
 use Rattle.std.specs.List.{sum_by}

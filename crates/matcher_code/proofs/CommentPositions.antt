@@ -21,7 +21,7 @@ module _ (opening closing text : List ℕ) where
   abbrev there : ℕ → List (List ℕ)
   there p = closings opening closing 0 (drop p text)
 
-  -- the first position is within those comments that are around a later one, but for so many
+  -- the first position is within those comments that are around a later one, but for a given number
   abbrev pub IsPassed : ℕ → ℕ → ℕ → Type 0
   IsPassed from depth at = depth < length (there at) → there from ≡ drop depth (there at)
 

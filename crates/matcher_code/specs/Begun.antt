@@ -7,8 +7,8 @@ use Rattle.base_language.specs.Language.Meaning.{Does, Run, Skipping, Task, Turn
 use Rattle.matcher_code.specs.Sizes.{size}
 
 module _ (g : Grammar) (classes : Classes) where
-  -- `Begins k s i p t`: the task k from s begins its part p from t, where so many rules of the relation of
-  -- matching are applied before: its own, and those of the parts before p
+  -- `Begins k s i p t`: the task k from s begins its part p from t, where a given number of rules of the
+  -- relation of matching are applied before: its own, and those of the parts before p
   pub data Begins : Task → State → ℕ → Task → State → Type 0 where
     call : {m : Mode} {n : Text} {s : State} {r : Rule} → rule_of g n ≡ Some r
         → Begins (Run m (Ident n)) s 1 (Run (body_mode r m) r.body) s

@@ -15,7 +15,7 @@ taken_to cs (r ∷ rs) = length cs - length r
 module _ (opening closing : List ℕ) where
   -- the rests of the text after those texts that close the comments around a place, the innermost comment
   -- first; a comment that begins there is passed over if it is closed, and else it is a part of the text
-  -- around it. The place is so many bytes, or characters, from here on
+  -- around it. The place is a given number of bytes, or characters, from here on
   abbrev pub closings : ℕ → List ℕ → List (List ℕ)
   closings k [] = []
   closings (suc k) (c ∷ cs) = closings k cs
@@ -29,6 +29,6 @@ module _ (opening closing : List ℕ) where
   abbrev pub comment_len : List ℕ → ℕ
   comment_len cs = if begins nat_eq opening cs then taken_to cs (closings (length opening) cs) else 0
 
--- whether a text of so many bytes, from 1 to 255, may open or close comments
+-- whether a text of a given number of bytes, from 1 to 255, may open or close comments
 abbrev pub can_delimit : List ℕ → Bool
 can_delimit t = nat_lt 0 (length t) && nat_lt (length t) 256

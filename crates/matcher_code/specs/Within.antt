@@ -11,8 +11,8 @@ module _ (opening closing text : List ℕ) where
     pub others : List (List ℕ)
     pub first : closings opening closing 0 (drop from text) ≡ drop end text ∷ others
 
-  -- so many texts close comments around a position, and the one of that number, from the outermost on, ends
-  -- there
+  -- a given number of texts close comments around a position, and the one of that number, from the outermost
+  -- on, ends there
   pub record IsAround (number at : ℕ) (c : Closings) : Type 0 where
     pub all : c.count ≡ length (closings opening closing 0 (drop at text))
     pub behind : 0 < number → number ≤ c.count → at ≤ c.end

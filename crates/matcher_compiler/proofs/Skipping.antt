@@ -48,7 +48,7 @@ blank_mode : (b : Bool) → (m : code.Atomicity) × (mode_of m ≡ inherited b B
 blank_mode true = (mode.Atomic, refl)
 blank_mode false = (mode.NonAtomic, refl)
 
--- as many blanks as there are, where there are no comments
+-- all blanks that there are, where there are no comments
 pub blanks_alone : (g : Grammar) (classes : Classes) (set : ℕ → Bool) → rule_of g comment ≡ None
     → HasOutcome g classes (Run Between blanks) (skip_set set) in_silence → HasOutcome g classes (Skipping NonAtomicMode) (skip_set set) in_silence
 blanks_alone g classes set m has s =

@@ -87,7 +87,7 @@ same_end code text m {c = c} {d = d} x e h =
     sym (steps_add code text m x.taken c ∙ stays_ended code text (steps code text m c) h x.taken)
     ∙ (ap (λ k. steps code text k c) z ∙ (steps_add code text x.taken m c ∙ (ap (steps code text m) x.same ∙ stays_ended code text d e m)))
 
--- a run has ended after so many steps as it takes to come to an end
+-- a run has ended after the steps that it takes to come to an end
 ends_by : (code : CodeLists) (text : List ℕ) (m : ℕ) {i j : ℕ} {c d : Config} (x : Reaches code text i j c d) → x.taken ≤ m → IsEnd code d.pc → IsEnd code (steps code text m c).pc
 ends_by code text m {c = c} {d = d} x l e =
     let z : x.taken + (m - x.taken) ≡ m = omega (arith, l) in

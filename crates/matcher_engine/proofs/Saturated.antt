@@ -20,7 +20,8 @@ module _ (m : ℕ) where
             ∙ (min-eq_right (reaches a m) ∙ sym (min-eq_right (le_trans more (reaches a b))))
       ]
 
-  -- the turns of code of so many operations on so many bytes, by sums and products that stop at the greatest number
+  -- the turns of code of a given number of operations on a given number of bytes, by sums and products that
+  -- stop at the greatest number
   pub stays_below : (size bytes a b c d e r : ℕ) → a ≡ min (bytes + 4) m → b ≡ min (size * a) m → c ≡ min (b + 1) m
       → d ≡ min (size * c) m → e ≡ min (d * 3) m → r ≡ min (e + 1) m → r ≡ min (3 * size * (size * (bytes + 4) + 1) + 1) m
   stays_below size bytes a b c d e r is_a is_b is_c is_d is_e is_r =

@@ -25,7 +25,7 @@ abbrev pub with_each : (Text → ℕ) → List (List OpenCall) → List Path →
 with_each number lists [] = lists
 with_each number lists (p ∷ ps) = with_each number (with_path lists (calls_of number p)) ps
 
--- the result of a run of the rule in so many steps at most has a property, or the reason of a stop
+-- the result of a run of the rule in at most a given number of steps has a property, or the reason of a stop
 abbrev pub Answers : {A : Type 0} → Program → Text → State → ℕ → (A → Type 0) → Result A Stop → Type 0
 Answers p n s steps Has (Ok it) = Has it
 Answers p n s steps Has (Err why) = IsStoppedFrom (grammar_in p) p.properties.items n s steps why

@@ -11,16 +11,17 @@ use Rattle.matcher_program.specs.Answers.{HasAt}
 use Rattle.matcher_program.specs.Programs.{Fits}
 use Rattle.matcher_program.specs.declared.form.Property.{Property}
 
--- the greatest number of steps within a limit: if there is none, as many as a `u64` of operations has
+-- the greatest number of steps within a limit: if there is none, the steps that a `u64` of operations has
 abbrev pub steps_of : Option ℕ → ℕ
 steps_of (Some steps) = steps
 steps_of None = 2 ^ 62 - 1
 
--- as many turns of a run with a memo table: four for each step
+-- the turns of a run with a memo table: four for each step
 abbrev pub turns_of : Option ℕ → ℕ
 turns_of limit = min (4 * steps_of limit) (2 ^ 64 - 1)
 
--- no rule uses the stack, and the turns are more than code of so many operations may take on so many bytes
+-- no rule uses the stack, and the turns are more than code of a given number of operations may take on a
+-- given number of bytes
 pub record IsAmple (g : Grammar) (operations bytes turns : ℕ) : Type 0 where
   pub stackless : grammar_stack g ≡ false
   pub more : most_turns operations bytes < turns

@@ -13,13 +13,13 @@ use Rattle.matcher_program.specs.Programs.{Fits}
 use Rattle.matcher_program.specs.Sizes.{most_steps}
 
 module _ (g : Grammar) (classes : Classes) (n : Text) (s : State) where
-  -- the rule, called in NonAtomic from a state, comes to a task in another one, if so many rules of the
-  -- relation of matching are applied
+  -- the rule, called in NonAtomic from a state, comes to a task in another one, if a given number of rules of
+  -- the relation of matching are applied
   abbrev pub RuleComesTo : ℕ → Task → State → Type 0
   RuleComesTo i k t = ComesTo g classes (Run NonAtomicMode (Ident n)) s i k t
 
-  -- a run of the rule takes more steps than so many, two for each rule of the relation: up to an outcome, or
-  -- up to a task that it comes to
+  -- a run of the rule takes more steps than a given number, two for each rule of the relation: up to an
+  -- outcome, or up to a task that it comes to
   pub data IsLonger (steps : ℕ) : Type 0 where
     ends : {o : Outcome} (d : HasAt g n s classes o) → steps < most_steps d → IsLonger steps
     comes : {i : ℕ} {k : Task} {t : State} → RuleComesTo i k t → steps < 2 * i → IsLonger steps
@@ -33,8 +33,8 @@ module _ (g : Grammar) (classes : Classes) (n : Text) (s : State) where
     pub comes : RuleComesTo applied (Run mode (Ident name)) state
     pub read : IsEmptyRead g name state
 
--- the reason to stop a run, of so many steps at most: an allocation failed; or the text is too long; or there
--- is a longer run; or one that reads the empty stack
+-- the reason to stop a run, of at most a given number of steps: an allocation failed; or the text is too
+-- long; or there is a longer run; or one that reads the empty stack
 abbrev pub HasReason : Grammar → List Property → Text → State → ℕ → Stop → Type 0
 HasReason g ps n s steps stop.Memory = ⊤
 HasReason g ps n s steps stop.TextTooLong = ⊤

@@ -33,8 +33,8 @@ visited rule number depth r i j inner = record {
   depth = depth;
 }
 
--- the walk over trees that so many trees hold, if the first has a number: into each, over those that it
--- holds, and out of it
+-- the walk over trees that a given number of trees hold, if the first has a number: into each, over those
+-- that it holds, and out of it
 abbrev pub visits : (Text → ℕ) → (number depth : ℕ) → Trees → List Visit
 visits rule number depth None' = []
 visits rule number depth (Tree r i j inner others) =

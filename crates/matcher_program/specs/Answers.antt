@@ -71,7 +71,7 @@ IsRefusedAs g n fails stops (is.UnknownRule name) = (rule_of g n ≡ None) × (c
 IsRefusedAs g n fails stops (is.NoMatch place) = fails place
 IsRefusedAs g n fails stops (is.Stopped why) = stops why
 
--- no rule has the name; or the rule fails there; or the run, of so many steps at most, was stopped
+-- no rule has the name; or the rule fails there; or the run, of at most a given number of steps, was stopped
 abbrev pub IsRefusedFrom : Grammar → List Property → Text → State → ℕ → Refusal → Type 0
 IsRefusedFrom g ps n s steps why =
     IsRefusedAs g n (FailsWith g ps n s) (IsStoppedFrom g ps n s steps) why

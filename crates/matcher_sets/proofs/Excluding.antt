@@ -92,7 +92,7 @@ span_right f h (c ∷ cs) = go (f c) (h c) (span_right f h cs)
     go false false i = omega arith
 
 module _ (g : Grammar) (classes : Classes) where
-  -- the outcome of what takes so many characters more than one, or fails
+  -- the outcome of what takes a given number of characters more than one, or fails
   abbrev TakesOrFails : Task → State → ℕ → Bool → Type 0
   TakesOrFails k s more b = (d : Does g classes k s (if b then Success (moved (suc more) s) None' else Failure)) × IsSilent d
 

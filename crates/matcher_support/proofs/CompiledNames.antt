@@ -36,7 +36,7 @@ name_count [] = refl
 name_count (r ∷ rs) = ap suc (name_count rs)
 
 module _ (rules : List OptimizedRule) (block : List ℕ) (is : IsCompiled rules block) where
-  -- as many rules as types
+  -- a type for each rule
   pub counted : length (part_of block 3) ≡ length rules
   counted = ap length is.has.types ∙ length-map rules (λ r. _)
 

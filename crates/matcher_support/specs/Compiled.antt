@@ -65,7 +65,7 @@ ArePathsIn g rule text place paths = (o : Outcome) × (d : Has g (chars rule) te
 abbrev pub FailsIn : Grammar → List ℕ → List ℕ → ℕ → Type 0
 FailsIn g rule text place = (d : Has g (chars rule) text is_in_property Failure) × (place ≡ furthest d)
 
--- why a run, of so many steps at most, has no answer if a failure has one
+-- why a run, of at most a given number of steps, has no answer if a failure has one
 abbrev pub IsUnanswered : Grammar → List ℕ → List ℕ → ℕ → BlockStop → Type 0
 IsUnanswered g rule text steps (stop.NoMatch place) = ⊥
 IsUnanswered g rule text steps (stop.Stopped why) =

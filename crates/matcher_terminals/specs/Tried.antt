@@ -14,8 +14,7 @@ use Rattle.matcher_support.specs.Names.{tag_in}
 use Rattle.matcher_support.specs.Spliced.{with_trees}
 use Rattle.matcher_terminals.specs.Exposed.{is_trivia, token_type}
 
--- a rule that is one token: an atomic one, one that is not atomic inside such a rule, and those of whitespace
--- and comments
+-- a rule that is one token: an atomic one, one that is marked `!`, and those of whitespace and comments
 abbrev pub gives_tokens : RuleType → Bool
 gives_tokens Silent = false
 gives_tokens ty = true

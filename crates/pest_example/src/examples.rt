@@ -83,7 +83,7 @@ fn rules_by_name<'a>(
     Ok(by_name)
 }
 
-/// Makes texts until there are as many as are wanted that the rule matches to their end, or there were too
+/// Makes texts until the wanted number of them is matched by the rule to the end, or there were too
 /// many tries.
 fn collect_examples(
     alloc: Global,

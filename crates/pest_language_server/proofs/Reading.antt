@@ -42,7 +42,7 @@ says_next lines line said (Some n) h says = (lines, line, [], refl, says, All-ni
 pub take_front : (k n : ℕ) (xs ys : List ℕ) → n ≤ length ys → take n (put_mid 0 k xs ys) ≡ take n ys
 take_front k n xs ys l = take-append-le n ys (post_of 0 k xs) l
 
--- more bytes than so many
+-- more bytes than a given number
 pub takes_more : (a b c : Option (List ℕ)) (bytes more : List ℕ) (rest taken count : ℕ) → (length bytes + rest ≡ count) → Consumes a b bytes → Consumes b c more → length more ≡ taken → taken ≤ rest
     → (length (bytes ++ more) + (rest - taken) ≡ count) × Consumes a c (bytes ++ more)
 takes_more a b c bytes more rest taken count e h k n l =

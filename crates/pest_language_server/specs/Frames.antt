@@ -109,7 +109,7 @@ IsHeadRead old new (head.Length said) = (bytes : List ℕ) × IsHead bytes (Some
 IsHeadRead old new head.Invalid = (bytes : List ℕ) × IsInvalid bytes × Consumes old new bytes
 IsHeadRead old new head.End = (bytes : List ℕ) × IsCutHead bytes × LosesAll old new bytes
 
--- so many bytes are read of an input, unless the input ends first
+-- a given number of bytes are read of an input, unless the input ends first
 abbrev pub IsRestRead : Option (List ℕ) → Option (List ℕ) → ℕ → Bool → Type 0
 IsRestRead old new count true = (bytes : List ℕ) × (length bytes ≡ count) × Consumes old new bytes
 IsRestRead old new count false = (bytes : List ℕ) × (length bytes < count) × LosesAll old new bytes

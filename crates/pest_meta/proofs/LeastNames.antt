@@ -11,7 +11,7 @@ module _ (g : Grammar) (test : (Text → Bool) → Expression → Bool) where
   at p None = false
   at p (Some r) = test p r.body
 
-  -- the names of which so many rounds tell
+  -- the names of which a given number of rounds tell
   abbrev stage : ℕ → Text → Bool
   stage zero n = false
   stage (suc k) n = stage k n || at (stage k) (rule_of g n)

@@ -66,7 +66,7 @@ module _ (called : Text → State → State → Type 0) where
   Means (Some r) n s u = Takes (body_of r) s u
   Means None n s u = n ≡ codes "ANY" → TakesOne (λ c. true) s u
 
--- so many calls deep
+-- a given number of calls deep
 abbrev Called : ℕ → Text → State → State → Type 0
 Called zero n s u = Unit {0}
 Called (suc k) n s u = Means (Called k) (rule_named n) n s u

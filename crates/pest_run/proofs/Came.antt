@@ -52,7 +52,7 @@ use Rattle.matcher_support.specs.declared.attempts.NamedAttempts.{NamedAttempts}
 use Rattle.pest_run.specs.declared.outcomes.Outcome.{Outcome}
 use Rattle.pest_run.specs.declared.outcomes.Outcome.TheVariants as is
 
--- why a run was stopped, with as many steps
+-- why a run was stopped, with the same number of steps
 pub limit_of : (g : Grammar) (rule text : List ℕ) (m n : ℕ) (why : Stop) → m ≡ n → IsStopped g (chars rule) (start_of text) is_in_property m why → IsStopped g (chars rule) (start_of text) is_in_property n why
 limit_of g rule text m n why e h = subst (λ k. IsStopped g (chars rule) (start_of text) is_in_property k why) e h
 

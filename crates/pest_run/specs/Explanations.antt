@@ -39,7 +39,7 @@ pub record ShowsPaths (g : Grammar) (rule text : List ℕ) (format : Format) (sh
   pub are : ArePathsIn g rule text place paths
   pub shows : shown ≡ shown_paths format text (rule_names g) place paths
 
--- that the open calls were not found in so many steps, or that memory or the lists did not suffice
+-- that the open calls were not found in a given number of steps, or that memory or the lists did not suffice
 abbrev pub unfound_text : ℕ → List ℕ
 unfound_text steps = codes "the open calls were not found in " ++ limit_text steps
 

@@ -18,7 +18,7 @@ abbrev pub no_rule_text : Grammar → List ℕ → List ℕ
 no_rule_text g name =
     codes "the grammar has no rule " ++ escaped_bytes name ++ suggestion (take 5 (near_names g name))
 
--- sixteen times as many steps, as far as they can be counted
+-- sixteen times the steps, as far as they can be counted
 abbrev pub more_steps : ℕ → ℕ
 more_steps steps = min (steps * 16) (2 ^ 64 - 1)
 
@@ -41,7 +41,7 @@ abbrev pub IsStepsText : ℕ → List ℕ → Type 0
 IsStepsText steps message =
     (message ≡ steps_text steps) ⊎ ((user : List ℕ) × (message ≡ stack_text steps user))
 
--- that the expected set of a failure was not found in so many steps
+-- that the expected set of a failure was not found in a given number of steps
 abbrev pub unnamed_text : ℕ → List ℕ
 unnamed_text steps = codes "what is expected here was not found in " ++ limit_text steps
 
@@ -86,12 +86,12 @@ end_text text end_ place names =
     note_between (line_column text end_) (line_column text (length text))
     ++ (if nat_le end_ place then expected_text (line_column text place) names else [])
 
--- that something was not found in so many steps
+-- that something was not found in a given number of steps
 abbrev pub not_found_text : ℕ → List ℕ
 not_found_text steps = codes " was not found in " ++ limit_text steps
 
--- that a match ends at a byte position of a text, and that what is expected at another was not found in so
--- many steps
+-- that a match ends at a byte position of a text, and that what is expected at another was not found in a
+-- given number of steps
 abbrev pub unnamed_end_text : List ℕ → (end_ place limit : ℕ) → List ℕ
 unnamed_end_text text end_ place limit =
     note_between (line_column text end_) (line_column text (length text))

@@ -74,8 +74,8 @@ TakesTooManySteps g rule text limit =
     × ∥ IsLonger g is_in_property (chars rule) (start_of text) limit ∥₁
 
 -- the rule, called at the start of the text, succeeds, and the note, if there is one, tells where it ends,
--- and the names that are expected at its furthest failure; or that these were not found in so many steps, and
--- for each outcome the matcher may take more
+-- and the names that are expected at its furthest failure; or that these were not found in a given number of
+-- steps, and for each outcome the matcher may take more
 pub record IsNoted (g : Grammar) (rule text : List ℕ) (format : Format) (limit : ℕ) (note : Option (List ℕ))
     : Type 0 where
   pub end_ : State
@@ -111,8 +111,8 @@ pub record HasFailed (g : Grammar) (rule name text report : List ℕ) : Type 0 w
   pub reports : ReportsFailure name text place names others report
 
 -- the rule, called at the start of the text of a file, fails, and the report shows the furthest position of a
--- failure, if what is expected was not found in so many steps; and for each outcome the matcher may take
--- more
+-- failure, if what is expected was not found in a given number of steps; and for each outcome the matcher may
+-- take more
 pub record HasUnnamed (g : Grammar) (rule name text : List ℕ) (limit : ℕ) (report : List ℕ) : Type 0 where
   pub fails : Has g (chars rule) text is_in_property Failure
   pub long : TakesTooManySteps g rule text limit
@@ -135,7 +135,8 @@ CallsUnknownName g = (n : Text) × InSomeRule g (Ident n) × IsUnknown has_set g
 abbrev pub HasWrongBound : Grammar → Type 0
 HasWrongBound g = (t : Text) × IsBoundOf (InSomeRule g) t × IsNoCharacter t
 
--- the outcome says why the matcher stopped a run of so many steps at most, or reports an allocation failure
+-- the outcome says why the matcher stopped a run of at most a given number of steps, or reports an allocation
+-- failure
 abbrev pub IsStopReport : Stop → ℕ → Outcome → Type 0
 IsStopReport stop.Memory limit o = o ≡ is.Memory
 IsStopReport stop.EmptyStack limit o = o ≡ is.EmptyStack
@@ -158,8 +159,8 @@ IsFailureReport name text failure (is.Failed report) =
 IsFailureReport name text failure is.Memory = ⊤
 IsFailureReport name text failure _ = ⊥
 
--- the outcome reports a failure at a position of the text of a file, if what is expected was not found in
--- so many steps; or it reports an allocation failure
+-- the outcome reports a failure at a position of the text of a file, if what is expected was not found in a
+-- given number of steps; or it reports an allocation failure
 abbrev pub IsUnnamedReport : List ℕ → List ℕ → (place limit : ℕ) → Outcome → Type 0
 IsUnnamedReport name text place limit (is.Unnamed report) =
     ReportsAt name text place (unnamed_text limit) (string_bytes report)
@@ -175,7 +176,7 @@ IsMatchReport text format end_ place names trees (is.Shown lines note) =
 IsMatchReport text format end_ place names trees is.Memory = ⊤
 IsMatchReport text format end_ place names trees _ = ⊥
 
--- so it does where what is expected there was not found in so many steps
+-- so it does where what is expected there was not found in a given number of steps
 abbrev pub IsUnnamedMatchReport : List ℕ → Format → (end_ place limit : ℕ) → Trees → Outcome → Type 0
 IsUnnamedMatchReport text format end_ place limit trees (is.Shown lines note) =
     (string_bytes lines ≡ trees_text format text end_ trees)

@@ -92,9 +92,9 @@ pub record NotesEnd {X E : Type 0} (form : RuleForm) (grammar rule text : List �
   pub noted : IsNoted rules rule text format limits.names note
   pub line : WritesNote note same written old new
 
--- the reason why there are no trees, and its text: the grammar is refused, and its report is the text; or
--- it has no rule of that name; or the rule fails, and the text reports that on the text of the file, with
--- what is expected, or that this was not found in so many steps
+-- the reason why there are no trees, and its text: the grammar is refused, and its report is the text; or it
+-- has no rule of that name; or the rule fails, and the text reports that on the text of the file, with what
+-- is expected, or that this was not found in a given number of steps
 pub data IsReason (form : RuleForm) (grammar rule name text : List ℕ) (limits : Limits)
     : List ℕ → Type 0 where
   refused : (is_terminal : Bool) (errors : List (Error Rule)) (report : List ℕ) → IsRefusedWith grammar errors

@@ -25,7 +25,8 @@ use Rattle.program_support.specs.declared.status.Status.TheVariants.{Done, Found
 abbrev pub rule_name : Case → List ℕ → List ℕ
 rule_name case default = elim case.rule [ Some name ↦ name.now | None ↦ default ]
 
--- the greatest number of steps on a text of so many bytes: 2^28, and 4,096 for each byte, if a `u64` holds it
+-- the greatest number of steps on a text of a given number of bytes: 2^28, and 4,096 for each byte, if a
+-- `u64` holds it
 abbrev pub most_steps : ℕ → ℕ
 most_steps length = min (4096 * (length + 65536)) (2 ^ 64 - 1)
 

@@ -16,7 +16,7 @@ pub record IsPartOf (text part : List ℕ) : Type 0 where
   pub after : List ℕ
   pub whole : text ≡ before ++ (part ++ after)
 
--- as many blanks as a number has digits
+-- a blank for each digit of a number
 abbrev pub margin : ℕ → List ℕ
 margin number = repeat (length (decimal number)) (codes " ")
 
@@ -42,7 +42,7 @@ columns_of characters = min (sum_by shown_width characters) (2 ^ 64 - 1)
 abbrev pub blanks_below : ℕ → List ℕ
 blanks_below c = if c == 9 then codes "\t" else repeat (shown_width c) (codes " ")
 
--- a mark of so many columns, at least one, without its end if it is cut
+-- a mark of a given number of columns, at least one, without its end if it is cut
 abbrev pub dashes : ℕ → Bool → List ℕ
 dashes columns is_cut = codes "^" ++ (if nat_lt columns 2 then []
     else repeat (columns - 2) (codes "-") ++ (if is_cut then codes "-" else codes "^"))

@@ -60,7 +60,7 @@ AddsAction context extent diagnostic old new = (values : List Data)
     (IsActionFor context diagnostic values) (values ≡ [])
     × (new ≡ old ++ values)
 
--- the first actions of diagnostics that touch an extent, at most so many
+-- the first actions of diagnostics that touch an extent, at most a given number
 abbrev pub AreActionsOf : Context → Extent → ℕ → List Diagnostic → List Data → Type 0
 AreActionsOf context extent room [] values = values ≡ []
 AreActionsOf context extent room (diagnostic ∷ diagnostics) values =

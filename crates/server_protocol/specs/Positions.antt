@@ -16,7 +16,8 @@ units Utf8 byte = 1
 units Utf16 byte =
     if nat_lt byte 128 then 1 else if nat_lt byte 192 then 0 else if nat_lt byte 240 then 1 else 2
 
--- the position after a byte: the start of the next line, if a line ends, or else so many units further
+-- the position after a byte: the start of the next line, if a line ends, or else a given number of units
+-- further
 abbrev pub after_byte : Encoding → List ℕ → ℕ → Position → Position
 after_byte encoding text k position =
     if ends_line text k

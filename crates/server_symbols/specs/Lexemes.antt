@@ -42,8 +42,8 @@ string_len is_escaped (byte ∷ bytes) = if is_line_end byte then 0
 abbrev pub string_end : List ℕ → ℕ → ℕ
 string_end text start = start + string_len false (drop start text)
 
--- how many bytes a character has up to the quote that closes it, which comes in its line, and after at
--- least so many bytes
+-- how many bytes a character has up to the quote that closes it, which comes in its line, and after at least
+-- a given number of bytes
 abbrev pub character_len : ℕ → List ℕ → Option ℕ
 character_len least [] = None
 character_len least (byte ∷ bytes) = if is_line_end byte then None
@@ -75,7 +75,8 @@ inner_after inner last byte = if is_block_end last byte then inner - 1
 abbrev pub last_after : ℕ → ℕ → ℕ
 last_after last byte = if is_block_end last byte || is_block_start last byte then 32 else byte
 
--- how many bytes there are up to the end of a block comment in which so many others are open, after a byte
+-- how many bytes there are up to the end of a block comment in which a given number of others are open, after
+-- a byte
 abbrev pub block_len : ℕ → ℕ → List ℕ → ℕ
 block_len inner last [] = 0
 block_len inner last (byte ∷ bytes) = if is_block_end last byte && inner == 0 then 1
