@@ -21,14 +21,18 @@
     >>> pest_meta.load(block).parse("a", "xx").end
     2
 
-A refused grammar raises GrammarError, which has all errors of the grammar. Only diagnostics returns them instead. If a
-rule does not match a text, MatchError is raised. A text that is no str is a TypeError. Positions are in bytes of UTF-8,
-from 0, as in docs/FORMAT.md. A Tree also has offsets in characters. Lines and columns count from 1, and a column is a
-character.
+If a grammar is refused, GrammarError is raised. It has all errors of the grammar. Only the call `diagnostics` does not
+raise it, and returns the errors. If a rule does not match a text, MatchError is raised. If an argument for a text is no
+str, TypeError is raised. If an allocation fails, MemoryError is raised. If the library is missing, or is not of the
+release of this file, LibraryError is raised.
+
+Positions are in bytes of UTF-8, from 0, as in docs/FORMAT.md. A Tree also has positions in characters. Lines and
+columns count from 1, and columns are in characters.
 
 This file needs Python 3.8 and the shared library, and nothing else. It looks for the library in these folders, in this
-order: the one that the variable PEST_META_LIB names, that of this file, ../lib, where bridge/build puts it, those of a
-release, and those of the system. Several threads may make calls at the same time.
+order: the folder of this file, the folder ../lib, into which bridge/build puts the library, the folders of a release,
+and the folders of the system. If the variable PEST_META_LIB is set, only the folder that it names is searched. Several
+threads may make calls at the same time.
 """
 import bisect
 import ctypes
@@ -93,15 +97,15 @@ class Problem(NamedTuple):
     start: int
     """The byte at which it starts."""
     end: int
-    """The byte before which it ends; start, where it is a position and no span."""
+    """The byte before which it ends. If the error has a position and no span, this is `start`."""
     line: int
-    """The line on which it starts."""
+    """The line on which it starts, from 1."""
     column: int
-    """The column at which it starts."""
+    """The column at which it starts, in characters, from 1."""
     source: str
-    """That line of the grammar, without its line break."""
+    """The line of the grammar on which it starts, without its line break."""
     expected: Tuple[str, ...]
-    """The rules of the meta-grammar that would have let a syntax error's text get further."""
+    """The rules of the meta-grammar that were expected at a syntax error. Empty for any other error."""
 
     def __str__(self) -> str:
         return f"{self.line}:{self.column}: {self.message}"
@@ -111,16 +115,16 @@ class Fix(NamedTuple):
     """A change of a grammar that fixes a diagnostic."""
 
     start: int
-    """The byte at which the change starts."""
+    """The first byte of the grammar that is replaced."""
     end: int
-    """The byte before which it ends."""
+    """The byte after the last one that is replaced."""
     replacement: str
-    """The text that goes between the two."""
+    """The text that takes the place of these bytes."""
     is_safe: bool = False
-    """Whether pest-lint applies it by --fix. An unsafe fix can change what the rules match."""
+    """Whether `pest-lint --fix` applies this fix. An unsafe fix can change what the rules match."""
 
     def apply(self, grammar: str) -> str:
-        """Returns the grammar with the change. Other fixes of the grammar do not fit the result."""
+        """Returns `grammar` with this change. The other fixes do not fit the result: call diagnostics again."""
         source = grammar.encode()
         return (source[: self.start] + self.replacement.encode() + source[self.end :]).decode()
 
@@ -143,40 +147,41 @@ class Diagnostic(NamedTuple):
     kind: str
     """`error` or `warning`."""
     code: str
-    """The code, as `pest::left_recursion`; `pest-lint --explain CODE` prints a page about it."""
+    """The code, such as `pest::left_recursion`. `pest-lint --explain CODE` prints a page about it."""
     message: str
+    """What is wrong."""
     start: int
-    """The byte at which it starts."""
+    """The byte of the grammar at which it starts."""
     end: int
-    """The byte before which it ends; start, where it is a position and no span."""
+    """The byte before which it ends. If the diagnostic has a position and no span, this is `start`."""
     line: int
-    """The line on which it starts."""
+    """The line on which it starts, from 1."""
     column: int
-    """The column at which it starts."""
+    """The column at which it starts, in characters, from 1."""
     help: Optional[str]
-    """How to mend it, where that is known."""
+    """How to correct the grammar, or None if that is not known."""
     fix: Optional[Fix]
-    """The change that does so, where one is known."""
+    """A change that corrects the grammar, or None if no such change is known."""
     related: Tuple[Related, ...]
-    """Other parts of the grammar that matter to it."""
+    """Other parts of the grammar that the message is about."""
     expected: Tuple[str, ...]
-    """What would have let a syntax error's text get further, as a message names it: "`~`", for one."""
+    """What was expected at a syntax error, in the words of messages, such as "`~`". Empty for any other diagnostic."""
 
     def __str__(self) -> str:
         return f"{self.line}:{self.column}: {self.kind}[{self.code}]: {self.message}"
 
 
 class GrammarError(ValueError):
-    """A grammar is refused. The text has the errors of the linter, with their helps, if there are any."""
+    """A grammar is refused. The text of the exception has the errors of the linter, each with its help, if any."""
 
     def __init__(self, problems: Sequence[Problem], diagnostics: Sequence[Diagnostic] = ()) -> None:
         helps = [f"\n  help: {it.help}" if it.help else "" for it in diagnostics]
         told = [f"{it}{help}" for it, help in zip(diagnostics, helps)]
         super().__init__(problems, diagnostics)
         self.problems = tuple(problems)
-        """All that is wrong, in the order in which the front end reports it: one at least."""
+        """All errors of the grammar, in the order in which the front end reports them. There is at least one."""
         self.diagnostics = tuple(diagnostics)
-        """The errors that the linter tells of the grammar."""
+        """The errors of the grammar as the linter reports them. Empty if the refused text is no whole grammar."""
         self._told = "\n".join(told or map(str, problems))
 
     def __str__(self) -> str:
@@ -186,8 +191,8 @@ class GrammarError(ValueError):
 class Expr:
     """An expression: the name of its form, its arguments and its operands, as docs/FORMAT.md names them.
 
-    `Expr("rep_exact", (2,), (Expr("str", ("x",)),))` is `"x"{2}`. Nothing here recurses, so depth does not
-    matter.
+    `Expr("rep_exact", (2,), (Expr("str", ("x",)),))` is `"x"{2}`. The constructor raises ValueError if the form has
+    another number of operands. No method recurses, so an expression may have any depth.
     """
 
     __slots__ = ("form", "arguments", "operands")
@@ -200,7 +205,7 @@ class Expr:
         self.operands = tuple(operands)
 
     def walk(self) -> Iterator["Expr"]:
-        """The expression and all that stands in it, each before its operands."""
+        """Returns the expression and all expressions inside it, each before its operands."""
         left = [self]
         while left:
             expr = left.pop()
@@ -255,10 +260,11 @@ class Token(NamedTuple):
     """The start or the end of a tree of the meta-grammar."""
 
     rule: Optional[str]
-    """The rule of a tree that starts, and None at an end."""
+    """At a start, the name of the rule of the tree. At an end, None."""
     position: int
+    """The position in the text, in bytes, from 0."""
     partner: int
-    """The number of the tree's other token."""
+    """The index, from 0, of the other token of the same tree in the list of tokens."""
 
 
 class _Places:
@@ -279,12 +285,12 @@ class _Places:
         return len(self._source[start:end].translate(None, self._INNER))
 
     def character(self, position: int) -> int:
-        """How many characters are before a byte."""
+        """Returns the number of characters before the byte `position`."""
         block = position // self._BLOCK
         return self._before[block] + self._count(block * self._BLOCK, position)
 
     def line_column(self, position: int) -> Tuple[int, int]:
-        """The line and the column of a byte."""
+        """Returns the line and the column of the byte `position`, both from 1. The column is in characters."""
         line = bisect.bisect_right(self._starts, position)
         return line, self.character(position) - self.character(self._starts[line - 1]) + 1
 
@@ -305,13 +311,13 @@ class _Nodes:
 
     @property
     def places(self) -> "_Places":
-        """Lines and characters of the text, which are counted when they are first asked for."""
+        """Returns the positions of lines and characters in the text. They are counted at the first call."""
         if self._places is None:
             self._places = _Places(self.source)
         return self._places
 
     def trees(self, at: int, end: int) -> List["Tree"]:
-        """The trees from a node on and before another, without those inside them."""
+        """Returns the outermost trees among the nodes with the indices from `at` up to `end`, without `end`."""
         trees, numbers = [], self.numbers
         while at < end:
             trees.append(Tree(self, at))
@@ -320,10 +326,11 @@ class _Nodes:
 
 
 class Tree:
-    """A token pair of a matched text: its rule, its span, and the trees inside it, which are made when they are used.
+    """A token pair of a matched text: its rule, its span, and the trees inside it. Each is made when it is used.
 
-    A tree is a sequence of the trees inside it: `for inner in tree`, `len(tree)`, `tree[0]`, `tree[-1]`. It is true,
-    also if it has no trees inside it. A copy by copy.copy is equal to the tree, and one by copy.deepcopy is not.
+    A tree is a sequence of its children, the trees directly inside it: `for inner in tree`, `len(tree)`, `tree[0]`,
+    `tree[-1]`. `bool(tree)` is True, even if the tree has no children. A copy that copy.copy makes is equal to the
+    tree. A copy that copy.deepcopy makes is not.
     """
 
     __slots__ = ("_nodes", "_at")
@@ -344,17 +351,17 @@ class Tree:
 
     @property
     def end(self) -> int:
-        """The byte after it."""
+        """The byte before which it ends. Positions are in bytes of UTF-8, from 0."""
         return self._nodes.numbers[4 * self._at + 2]
 
     @property
     def start_character(self) -> int:
-        """The number of characters before it: `text[tree.start_character:tree.end_character]` is its text."""
+        """Its start in characters, from 0: `text[tree.start_character:tree.end_character]` is the text of the tree."""
         return self._nodes.places.character(self.start)
 
     @property
     def end_character(self) -> int:
-        """The number of characters before its end."""
+        """Its end in characters, from 0."""
         return self._nodes.places.character(self.end)
 
     @property
@@ -391,11 +398,11 @@ class Tree:
         return self.children[index]
 
     def find(self, rule: str) -> Optional["Tree"]:
-        """The first tree of a rule that is inside it, at any depth, or None."""
+        """Returns the first tree of the rule named `rule` inside this tree, at any depth, or None if there is none."""
         return next(self.find_all(rule), None)
 
     def find_all(self, rule: str) -> Iterator["Tree"]:
-        """The trees of a rule that are inside it, at any depth, each before those inside it."""
+        """Returns the trees of the rule named `rule` inside this tree, at any depth, each before those inside it."""
         return (tree for tree in self.walk() if tree.rule == rule and tree._at != self._at)
 
     @property
@@ -404,7 +411,7 @@ class Tree:
         return self._nodes.source[self.start : self.end].decode()
 
     def walk(self) -> Iterator["Tree"]:
-        """The tree and all trees inside it, each before its children."""
+        """Returns this tree and all trees inside it, at any depth, each before its children."""
         nodes = self._nodes
         return (Tree(nodes, at) for at in range(self._at, nodes.numbers[4 * self._at + 3]))
 
@@ -422,7 +429,7 @@ class Match(NamedTuple):
     """The match of a rule."""
 
     end: int
-    """The byte after the match."""
+    """The end of the match, in bytes of UTF-8, from 0. The match starts at 0."""
     trees: List[Tree]
     """The trees of the match, in the order of the text."""
 
@@ -435,13 +442,13 @@ class MatchError(ValueError):
         start = source.rfind(b"\n", 0, position) + 1
         end = source.find(b"\n", position)
         self.position = position
-        """The furthest byte at which a rule failed."""
+        """The furthest position at which a rule failed, in bytes of UTF-8, from 0."""
         self.expected = tuple(expected)
-        """The rules that would have let the run get further; none where the message says that they were not found."""
+        """The names that were expected at this position, sorted. If they were not found, the message says so."""
         self.line = before.count("\n") + 1
         self.column = len(before) - before.rfind("\n")
         self.source = source[start : end if end >= 0 else None].decode()
-        """That line of the text, without its line break."""
+        """The line of the text that has this position, without its line break."""
         expectation = f"expected {', '.join(expected)}" if expected else "unknown parsing error"
         shown, mark = _shown(self.source, self.column - 1)
         super().__init__(f"{self.line}:{self.column}: {note or expectation}\n  {shown}\n  {' ' * mark}^")
@@ -457,12 +464,15 @@ def _copied_error(args: Any, state: Dict[str, Any]) -> MatchError:
     return error
 
 
-# So many characters of a line are shown before what fails, and as many after it.
+# The number of characters of a line that are shown before the position of a failure, and also after it.
 _SHOWN = 60
 
 
 def _shown(line: str, column: int) -> Tuple[str, int]:
-    """A line around a column, with what is not printed escaped, and the place of the column in that."""
+    """Returns the part of `line` around `column`, and the column of the same place in this part.
+
+    `column` counts from 0. Characters that cannot be printed are escaped.
+    """
     before, after = line[max(0, column - _SHOWN) : column], line[column : column + _SHOWN]
     before, after = (re.sub("[^ -~]", _printable, part) for part in (before, after))
     return before + after, len(before)
@@ -473,14 +483,14 @@ def _printable(character: "re.Match[str]") -> str:
 
 
 class RunError(RuntimeError):
-    """A rule was stopped: it takes more steps than the limit, or it has no outcome."""
+    """The run of a rule was stopped: it takes more steps than the limit, or `PEEK` or `POP` met the empty stack."""
 
 
 class Matcher:
     """The compiled rules of a grammar, which are run on texts. Any number of threads may use one Matcher."""
 
     def __init__(self, grammar: str) -> None:
-        """Reads, checks, optimizes and compiles a grammar. Raises GrammarError if it is refused."""
+        """Reads, checks, optimizes and compiles `grammar`. Raises what compile raises."""
         self._take(compile(grammar))
 
     def __repr__(self) -> str:
@@ -497,19 +507,21 @@ class Matcher:
         self._all_names = (*self.names, "EOI")
 
     def parse(self, rule: str, text: str, steps: Optional[int] = None) -> Match:
-        """Matches a text by the rule named `rule`, from the start of the text on.
+        """Matches `text` by the rule named `rule`, from the start of `text` on.
 
-        If the rule does not use pest's stack, it needs no limit: the turns of the match are linear in the bytes of the
-        text and in the trees. A match that uses the stack may take exponential time, as in pest. So give `steps` if the
-        text comes from an untrusted source.
+        A rule that does not end in EOI may match only a part of the text: see Match.end.
 
-        `steps` is the greatest number of steps of the match. It is also that of the search for the rules that are
-        expected if the match fails. If `steps` is None, the match has no limit, and the search has 2**23 steps and 32
-        more for each byte. A limit of 2**64 - 1 is none.
+        If the rule does not use pest's stack, the match needs no limit: its turns are linear in the bytes of the text
+        and in the trees. If the rule uses the stack, the match may take exponential time, as in pest. Then give `steps`
+        if the text comes from an untrusted source.
 
-        Raises MatchError if the rule does not match, ValueError if no rule has the name, and RunError if the run is
-        stopped. If `steps` is given, RunError is also raised if the rule fails and the search is stopped. A rule that
-        does not end in EOI may match a part of the text: see Match.end.
+        If the match fails, a second run searches for the rules that were expected. Each of both runs takes at most
+        `steps` steps. If `steps` is None, the match has no limit. The search then takes at most 2**23 steps, and 32
+        more for each byte of the text. The number 2**64 - 1 means no limit.
+
+        Raises MatchError if the rule does not match. Raises ValueError if no rule has the name, or if the text has
+        4 GiB or more. Raises RunError if the match is stopped. If `steps` is given, RunError is also raised if the
+        search is stopped. Raises MemoryError if an allocation fails.
         """
         source = _encoded(text)
         words = self._words(rule, source)
@@ -525,10 +537,12 @@ class Matcher:
         raise _stop(status, "pest_meta_run", rule, limit)
 
     def paths(self, rule: str, text: str, position: int, steps: Optional[int] = None) -> List[List[Tuple[str, int]]]:
-        """Returns the paths to the rules of a MatchError at a position in bytes.
+        """Returns the paths to the rules that are expected at the byte `position` when `rule` is run on `text`.
 
-        A path has the calls that are open there, each with rule and start: the outermost first, and the expected one
-        last. Raises what parse raises, except for MatchError. Raises MemoryError if there are more than 1,024 paths.
+        To explain a MatchError, give its `position`. A path has the calls that are open there: the outermost first,
+        and the expected one last. A call is the name of its rule and its start in bytes. The run takes at most `steps`
+        steps. If `steps` is None, it takes at most 2**23 steps, and 32 more for each byte of the text. Raises what
+        parse raises, except for MatchError. Raises MemoryError if there are more than 1,024 paths.
         """
         source, calls = _encoded(text), _List()
         steps = _error_steps(source) if steps is None else steps
@@ -542,16 +556,17 @@ class Matcher:
         return list(paths.values())
 
     def _words(self, rule: str, source: bytes) -> List[Any]:
-        """What the library is told of a run of a rule, up to the byte where it starts."""
+        """Returns the first arguments of a run of the rule named `rule` on `source`, from the block to the start, 0."""
         row = self._rows.get(rule)
         if row is None:
             raise ValueError(f"no rule has the name {rule!r}")
         return [self._block, len(self._block), row, source, len(source), 0]
 
     def _failure(self, words: List[Any], position: int, steps: int, may_lack: bool) -> Exception:
-        """The error of a run that fails at a position, with the rules that are expected there, sorted by name.
+        """Returns the error of a run that fails at the byte `position`, with the names that are expected there, sorted.
 
-        They may be lacking, where so many steps do not find them.
+        The search for these names takes at most `steps` steps. If that is not enough, the error has no names if
+        `may_lack` is true. Otherwise it is a RunError.
         """
         rows = _List()
         status = _library().pest_meta_expected(*words, position, steps, ctypes.byref(rows))
@@ -572,21 +587,21 @@ def _encoded(text: str) -> bytes:
 
 
 def _error_steps(source: bytes) -> int:
-    """The steps in which expected rules are looked for, if no limit is given."""
+    """Returns the limit of steps of the search for expected rules, if the caller gives no limit."""
     return 32 * len(source) + 2**23
 
 
 def compile(grammar: str) -> bytes:
-    """Reads, checks, optimizes and compiles a grammar. Returns a block of bytes for load (docs/FORMAT.md).
+    """Reads, checks, optimizes and compiles `grammar`. Returns a block of bytes for load (docs/FORMAT.md).
 
-    A program can keep the block in a file. The grammar is not needed when it is loaded. Raises GrammarError if the
-    grammar is refused.
+    A program can keep the block in a file. To load it, the grammar is not needed. Raises GrammarError if the grammar is
+    refused, ValueError if a bound of a range is not one character, and MemoryError if an allocation fails.
     """
     return _compiled("pest_meta_compile", grammar)
 
 
 def _compiled(function: str, grammar: str) -> bytes:
-    """The block of a grammar that a function of the library makes."""
+    """Returns the block that the function `function` of the library makes of `grammar`."""
     source, block = _encoded(grammar), _List()
     status = getattr(_library(), function)(source, len(source), ctypes.byref(block))
     if status == _REFUSED:
@@ -599,18 +614,19 @@ def _compiled(function: str, grammar: str) -> bytes:
 
 
 class Terminals:
-    """The terminals of a grammar, which say what a text was missing."""
+    """The rules of a grammar, compiled to find the literals, ranges and builtins that a text was missing."""
 
     def __init__(self, grammar: str) -> None:
-        """Reads, checks, optimizes and compiles a grammar. Raises GrammarError if it is refused."""
+        """Reads, checks, optimizes and compiles `grammar`. Raises what compile raises."""
         self._matcher = load(_compiled("pest_meta_compile_exposed", grammar))
 
     def missing(self, rule: str, text: str, steps: Optional[int] = None) -> Optional[MatchError]:
         """Returns what `text` was missing if the rule named `rule` fails on it, or None if the rule matches.
 
-        The position of the error is the furthest one at which anything was tried. Its expected names are the literals,
-        ranges and builtins that were tried there, as they are written in a grammar, and rules that are one token. There
-        are none if everything that failed there stands below a `!`. Raises what Matcher.parse raises otherwise.
+        The result is a MatchError, which is returned and not raised. Its position is the furthest one at which anything
+        was tried. Its expected names are the literals, ranges and builtins that were tried there, as a grammar writes
+        them. A rule that is one token, such as an atomic one, is named by its own name. If everything that failed there
+        stands below a `!`, there are no names. Raises what Matcher.parse raises, except for MatchError.
         """
         try:
             self._matcher.parse(rule, text, steps)
@@ -622,7 +638,10 @@ class Terminals:
 
 
 def load(block: bytes) -> Matcher:
-    """Returns the matcher of a compiled grammar. Raises ValueError if the bytes are no such block, or were changed."""
+    """Returns the matcher of the compiled grammar `block`, which `compile` made.
+
+    Raises ValueError if the bytes are no compiled grammar, are one of another version, or were changed.
+    """
     block = bytes(block)
     status = _library().pest_meta_check(block, len(block))
     if status != _ANSWERED:
@@ -641,13 +660,13 @@ _FLAWS = {
 
 
 def _names(block: bytes) -> Iterator[str]:
-    """The names of the rules of a block."""
+    """Returns the names of the rules of `block`, in the order of the grammar."""
     count = _library().pest_meta_rule_count(block, len(block))
     return (_name(block, row) for row in range(count))
 
 
 def _name(block: bytes, row: int) -> str:
-    """The name of a rule of a block."""
+    """Returns the name of the rule of `block` with the index `row`."""
     size = ctypes.c_size_t(64)
     status = _NO_ROOM
     while status == _NO_ROOM:
@@ -657,7 +676,7 @@ def _name(block: bytes, row: int) -> str:
 
 
 class _List(ctypes.Structure):
-    """A list that the library hands out: where it lies, and how long it is."""
+    """A list that the caller owns after a call of the library: its address, and the number of its elements."""
 
     _fields_ = [("at", ctypes.c_void_p), ("count", ctypes.c_size_t)]
 
@@ -670,7 +689,7 @@ _SOMEWHERE = ctypes.c_uint64()
 
 
 def _taken(found: _List, size: int) -> bytes:
-    """The bytes of a list with elements of a size, whose memory is given back."""
+    """Returns the bytes of the list `found`, whose elements have `size` bytes each, and frees the list."""
     if not found.count:
         return b""
     taken = ctypes.string_at(found.at, found.count * size)
@@ -679,7 +698,7 @@ def _taken(found: _List, size: int) -> bytes:
 
 
 def _stop(status: int, function: str, rule: str, steps: int) -> Exception:
-    """The exception for a call that has no answer."""
+    """Returns the exception for the call `function` that ended with `status`, which is neither 0 nor 1."""
     if status == _OUT_OF_STEPS:
         return RunError(f"{rule} takes more than {steps} steps")
     if status == _EMPTY_STACK:
@@ -692,9 +711,10 @@ def _stop(status: int, function: str, rule: str, steps: int) -> Exception:
 
 
 def check(grammar: str) -> List[str]:
-    """Returns the builtins that a grammar uses. Raises GrammarError if the grammar is refused.
+    """Returns the builtins that `grammar` uses, in the order of their first calls.
 
-    diagnostics returns more about an error, and the warnings of an accepted grammar.
+    Raises GrammarError if the grammar is refused. The call `diagnostics` returns more about each error. It also returns
+    the warnings of an accepted grammar.
     """
     return optimize(grammar).builtins
 
@@ -709,28 +729,34 @@ def diagnostics(grammar: str) -> List[Diagnostic]:
 
 
 def rules(grammar: str) -> List[Rule]:
-    """Returns the rules of a grammar. Names are not checked: see check."""
+    """Returns the rules of `grammar`, in order, as they are written. Names are not checked: see check.
+
+    Raises GrammarError if the grammar has another error.
+    """
     return [_rule(rule) for rule in _ask("pest_meta_rules", grammar)]
 
 
 def optimize(grammar: str) -> Optimized:
-    """The builtins that a grammar uses, and its optimized rules."""
+    """Returns the builtins that `grammar` uses, and its optimized rules. Raises GrammarError if it is refused."""
     answer = _ask("pest_meta_parse_and_optimize", grammar)
     return Optimized(answer["builtins"], [_rule(rule) for rule in answer["rules"]])
 
 
 def optimize_rules(rules: Sequence[Rule]) -> List[Rule]:
-    """Optimizes rules that a program has made or changed. Only their form is checked.
+    """Returns the optimized rules of `rules`, which a program has made or changed. Only the form of `rules` is checked.
 
-    Raises ValueError if a rule or a node does not have a form of docs/FORMAT.md. The message names the rule or the
-    node.
+    Raises ValueError if a rule or a node does not have a form of docs/FORMAT.md. The message has the index of the rule
+    and of the node, from 0.
     """
     written = [{"name": rule.name, "type": rule.type, "expr": rule.expr._nodes()} for rule in rules]
     return [_rule(rule) for rule in _ask("pest_meta_optimize", json.dumps(written))]
 
 
 def tokens(text: str, rule: str = "grammar_rules") -> List[Token]:
-    """Returns the tokens of a text by a rule of pest's grammar of grammars, from the start of the text on."""
+    """Returns the tokens of `text` by the rule named `rule` of pest's grammar of grammars, from the start of `text` on.
+
+    Raises GrammarError if the rule does not match, and ValueError if that grammar has no such rule.
+    """
     entries = _ask("pest_meta_tokens", text, rule)
     return [Token(*entry) if len(entry) == 3 else Token(None, *entry) for entry in entries]
 
@@ -742,7 +768,7 @@ def versions() -> Tuple[str, int]:
 
 
 def _rule(rule: Any) -> Rule:
-    """A rule of JSON. Its nodes are joined from the last one to the first."""
+    """Returns the rule of the JSON object `rule`. Its nodes are joined from the last one to the first."""
     operands: List[Expr] = []
     for form, *arguments in reversed(rule["expr"]):
         count = _OPERANDS.get(form)
@@ -755,12 +781,12 @@ def _rule(rule: Any) -> Rule:
 
 
 def _ask(function: str, *texts: str) -> Any:
-    """What a function answers about texts, once the library is known to speak this file's format."""
+    """Returns the JSON that the function `function` answers for `texts`. Loads the library before the first call."""
     return _call(_library(), function, *texts)
 
 
 def _fill(function: str, *texts: str) -> Tuple[int, bytes]:
-    """The status of a function about texts, and the bytes that it writes."""
+    """Returns the status of the function `function` for `texts`, and the bytes that it writes."""
     return _filled(_library(), function, *texts)
 
 
@@ -778,7 +804,7 @@ _OVER_GRAMMARS = ("pest_meta_rules", "pest_meta_parse_and_optimize")
 
 
 def _filled(library: Any, function: str, *texts: str) -> Tuple[int, bytes]:
-    """Calls the library, and once more where the room was too small for the answer."""
+    """Calls the library, and once more if the buffer was too small for the answer. Returns the status and the bytes."""
     words: List[Any] = []
     for text in texts:
         encoded = _encoded(text)
@@ -796,7 +822,7 @@ def _filled(library: Any, function: str, *texts: str) -> Tuple[int, bytes]:
 
 
 def _refusal(answer: Any, grammar: Optional[str]) -> Exception:
-    """The exception for what the library says of a text that it refuses, which may be a grammar."""
+    """Returns the exception for `answer`, the JSON about a refused text: `grammar`, if the text is a whole grammar."""
     if isinstance(answer, list):
         errors = [it for it in diagnostics(grammar) if it.kind == "error"] if grammar is not None else []
         return GrammarError([_problem(problem) for problem in answer], errors)
@@ -847,7 +873,7 @@ _FUNCTIONS = {
 
 
 def _declare(function: Any, texts: int) -> None:
-    """Declares what pest_meta.h says: each text, then the room, as a pointer and a length; then where a length goes."""
+    """Declares `function` as pest_meta.h does, with `texts` texts, the buffer `out` and the pointer `needed`."""
     room = [ctypes.c_char_p, ctypes.c_size_t]
     function.argtypes = [*(texts * room), *room, ctypes.POINTER(ctypes.c_size_t)]
     function.restype = ctypes.c_uint8
@@ -885,7 +911,7 @@ def _library() -> Any:
 def _load() -> Any:
     paths = [os.path.join(folder, _LIBRARY) for folder in _folders()]
     found = [path for path in paths if os.path.isfile(path)]
-    # The system's own folders are searched for a bare name, and only where no folder is named.
+    # For a name without a folder, the system searches its own folders. This is done only if PEST_META_LIB is not set.
     fallback = paths[0] if os.environ.get("PEST_META_LIB") else _LIBRARY
     try:
         library = ctypes.CDLL(found[0] if found else fallback)

@@ -54,7 +54,8 @@ impl Default for Options {
     ghost is_default = { λ options. (options.width ≡ 100) × (options.indent ≡ 4)
         × (options.line_ends ≡ LineFeed) };
 
-    /// Returns 100 columns, four for each step, and line feeds.
+    /// Returns the default options: a width of 100 columns, an indentation of four columns, and
+    /// line feeds.
     fn default() -> Options {
         Options {
             width: 100,
@@ -74,10 +75,13 @@ pub enum Formatted {
     Unchanged,
 }
 
-/// Formats the grammar `text`. The formatted text has the same tokens, and the same comments between the
-/// same two tokens, infix operators left out. Only blanks at the ends of lines of comments are removed. The
-/// text is empty, or ends with one line feed. If lines end with line feeds, no line outside of literals
-/// ends with a blank.
+/// Formats the grammar `text`. The formatted text has the same tokens as `text`. A comment stays
+/// between the same two tokens, if infix operators are not counted: a comment may move to the other
+/// side of an operator. Of the comments, only blanks at the ends of lines are removed. The
+/// formatted text is empty, or ends with one line feed. If `options` asks for line feeds, no line
+/// outside of literals ends with a blank.
+///
+/// If the printed text fails the check of these facts, `Formatted::Unchanged` is returned.
 ///
 /// Names need not be defined. If `PestParser::parse` accepts `text` for `grammar_rules`, the result is not
 /// `Fault::Grammar`.
@@ -98,7 +102,8 @@ pub fn format(alloc: Global, text: &str, options: Options) -> Result<Formatted, 
     }
 }
 
-/// Prints a grammar of these tokens in a style. The caller checks the result.
+/// Returns the printed text of the grammar `text` with the tokens `entries`, by `options`. The
+/// caller checks the result.
 fn print_grammar(
     alloc: Global,
     text: &str,

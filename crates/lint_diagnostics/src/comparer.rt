@@ -22,10 +22,10 @@ use matcher_support::compiled::CompiledGrammar;
 use matcher_support::unicode_properties::UnicodeProperties;
 use std::alloc::{AllocError, Global};
 
-/// The most steps that a rule may take on a text.
+/// The greatest number of steps of a run on one text.
 const MOST_STEPS: u64 = 400;
 
-/// Rules as they are written, and both forms compiled.
+/// The rules of a grammar as they are written, and both forms of them as compiled grammars.
 #[derive(Drop)]
 pub struct RunnableForms {
     pub rules: Deep<Vec<OptimizedRule>>,
@@ -37,13 +37,13 @@ pub struct RunnableForms {
 #[derive(Drop)]
 pub struct Comparer<'t> {
     pub grammar: &'t str,
-    /// None if the rules cannot be run.
+    /// Both forms of the rules, or `None` if the rules cannot be run.
     pub forms: Option<RunnableForms>,
 }
 
 impl<'t> Comparer<'t> {
-    /// Compiles the rules that the text of a grammar spells, in both forms. The only error is an allocation
-    /// failure.
+    /// Compiles `rules` in both forms. Condition: `rules` are the rules that the text `grammar`
+    /// spells. The only error is an allocation failure.
     pub fn new(
         alloc: Global,
         grammar: &'t str,
@@ -58,9 +58,12 @@ impl<'t> Comparer<'t> {
         Ok(Comparer { grammar, forms })
     }
 
-    /// Looks for a text on which the rule of a name ends otherwise as pest runs it than as it is written.
-    /// Only some texts are tried, those of fewer pieces first; the returned one need not be the shortest. The
-    /// only error is an allocation failure. The time is bounded, except for an index of the rules.
+    /// Returns a text on which the rule named `rule` as pest runs it ends at another position than
+    /// the rule as it is written. Returns `None` if no such text is found.
+    ///
+    /// Only some texts are tried, and texts of fewer pieces come first. The returned text need not
+    /// be the shortest one. The time has a fixed bound, except for the time to make an index of the
+    /// rules. The only error is an allocation failure.
     pub fn distinguishing_text(
         &self,
         alloc: Global,

@@ -12,11 +12,12 @@ use std::alloc::{AllocError, Global};
 pub enum RuleEnd {
     /// The rule fails.
     Failure,
-    /// The rule matches the bytes before this one.
+    /// The rule matches. The match ends before this byte of the text.
     At(usize),
 }
 
-/// A text on which a rule ends otherwise as pest runs it than as it is written.
+/// A text on which the rule as pest runs it and the rule as it is written have different ends: two
+/// positions, or a position and a failure.
 #[derive(Drop)]
 pub struct Difference {
     pub text: String,
@@ -27,8 +28,8 @@ pub struct Difference {
 }
 
 impl Difference {
-    /// Returns a line that shows the text and both ends, with hidden characters as escapes; none if an end is
-    /// inside a character. The only error is an allocation failure.
+    /// Returns a line that shows the text and both ends. Hidden characters are escaped. Returns
+    /// `None` if an end is inside a character. The only error is an allocation failure.
     pub fn message(&self, alloc: Global) -> Result<Option<String>, AllocError>
         ensures text { IfOk result (λ found. IfSome found (λ message.
             string_bytes message ≡ spec.difference_message self.now)) }

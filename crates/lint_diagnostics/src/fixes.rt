@@ -29,9 +29,12 @@ struct Improved {
     applied: Applied,
 }
 
-/// Fixes the grammar `text`: first its syntax errors, as `mend` does. If none is left, it tries at most 100
-/// fixes of other diagnostics. Each of these is applied only if the fixed text is accepted, or has fewer
-/// errors. Unsafe fixes are applied only if `takes_unsafe` is true.
+/// Fixes the grammar `text`. First the syntax errors are fixed, as by `mend`. If no syntax error is
+/// left, at most 100 fixes of other diagnostics are tried. Such a fix is applied only if the fixed
+/// text is accepted, or has fewer errors. Unsafe fixes are applied only if `takes_unsafe` is true.
+///
+/// Returns the fixed text, with the fixes that were applied. If a syntax error is left, its
+/// position in bytes is returned, too.
 ///
 /// # Errors
 /// `AllocError` if an allocation fails.

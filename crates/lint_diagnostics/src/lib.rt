@@ -1,5 +1,6 @@
-//! The diagnostics of a grammar's text: errors, or else warnings, and texts on which a rule ends
-//! otherwise as pest runs it than as it is written.
+//! The diagnostics of the text of a grammar: its errors, or its warnings if it has no errors. Also
+//! texts on which a rule as pest runs it does not end at the same position as the rule as it is
+//! written.
 #![tactic(auto)]
 
 mod comparer;
@@ -40,10 +41,11 @@ use lint_patterns::rewritten_lists;
 use pest_meta::open;
 use std::alloc::{AllocError, Global};
 
-/// How many warnings of rewritten lists have a note.
+/// The greatest number of warnings of rewritten lists in a text that have a note.
 const MOST_NOTES: usize = 10;
 
-/// The most rules of a grammar whose warnings have notes: both forms of all rules are compiled for these.
+/// The greatest number of rules of a grammar whose warnings have notes. For a note, all rules are
+/// compiled in both forms.
 const MOST_RULES: usize = 200;
 
 /// Returns the diagnostics of the grammar `text`. If `parse_and_optimize` refuses the text, they are its
@@ -64,7 +66,10 @@ pub fn diagnose(
     diagnose_with(alloc, text, options.starts, false)
 }
 
-/// Returns the diagnostics of `diagnose`, and the warnings that are reported on request.
+/// Returns the diagnostics of `diagnose`, and also the warnings that are reported only on request.
+///
+/// # Errors
+/// `AllocError` if an allocation fails.
 pub fn diagnose_all(
     alloc: Global,
     text: &str,

@@ -26,7 +26,7 @@ const MOST_ALLOWANCES: usize = 256;
 /// A comment that allows warnings of a code in the rule below it. Positions are bytes.
 #[derive(Clone, Copy)]
 pub struct Allowance {
-    /// The code that it names, if there is one of that name.
+    /// The code that the comment names, or `None` if no code has this name.
     pub code: Option<Code>,
     /// The byte at which the comment begins.
     pub start: usize,
@@ -38,11 +38,16 @@ pub struct Allowance {
     pub last: usize,
 }
 
-/// Leaves out the warnings that comments in a text of these rules allow, and adds one for each such comment
-/// that allows nothing. A comment `// pest-lint: allow(CODE)` allows the warnings of a code that begin in a
-/// rule. Only the lines that begin with `//` right above the line of the rule's name count, and of a text the
-/// first 256 such comments; further ones are told as comments that allow nothing. The only error is an
-/// allocation failure.
+/// Returns `diagnostics` without the warnings that comments in `text` allow. For each such comment
+/// that allows nothing, one warning is added. `rules` are the rules of `text`.
+///
+/// A comment `// pest-lint: allow(CODE)` allows the warnings of the code that begin in the rule
+/// below it. The comment must be one of the lines that begin with `//` directly above the line of
+/// the rule's name. The first 256 such comments of a text count. A further one is reported as a
+/// comment that allows nothing.
+///
+/// # Errors
+/// `AllocError` if an allocation fails.
 pub fn leave_out_allowed(
     alloc: Global,
     text: &str,

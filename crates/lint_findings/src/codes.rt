@@ -7,7 +7,7 @@ ghost use Rattle.lint_findings.specs.Codes.{is_on_request, severity_as, severity
 
 use crate::facts::{all_facts, facts_of};
 
-/// How much a diagnostic weighs.
+/// The severity of a diagnostic.
 #[derive(Clone, Copy, Debug, PartialEq, Eq)]
 pub enum Severity {
     /// The text is refused.
@@ -35,7 +35,7 @@ pub enum Report {
     Error,
     /// As warnings.
     Warning,
-    /// As warnings, if all are asked for.
+    /// As warnings, but only if the caller asks for all warnings.
     OnRequest,
 }
 
@@ -68,7 +68,7 @@ pub enum Code {
     Syntax,
     /// An escape is no Unicode scalar value.
     EscapeValue,
-    /// A number is past 32 bits.
+    /// A number does not fit 32 bits.
     NumberRange,
     /// An expression is repeated zero times.
     ZeroRepetition,
@@ -80,13 +80,13 @@ pub enum Code {
     UndefinedRule,
     /// A Unicode property is called that pest has and the front end has not.
     MissingProperty,
-    /// A rule calls itself before it takes a character.
+    /// A rule can call itself, directly or through other rules, before a character is consumed.
     LeftRecursion,
-    /// A repetition may go on without taking a character.
+    /// A repetition may never end, since its body can match without consuming a character.
     EndlessRepetition,
     /// A choice has an alternative after one that cannot fail.
     UnreachableChoice,
-    /// A tag is given where no token is made.
+    /// A tag is on a call that gives no token.
     TagWithoutToken,
     /// A comment allows no warning.
     UnusedAllowance,
@@ -96,13 +96,14 @@ pub enum Code {
     MissingEnd,
     /// A comment gives a start that is no rule.
     UnknownStart,
-    /// A literal or a call before an alternative begins all that it matches.
+    /// An earlier alternative, a literal or a call, matches a prefix of every text that an
+    /// alternative matches.
     Unreachable,
     /// A range matches nothing.
     ReversedRange,
-    /// A count's first number is above its last.
+    /// The first number of a counted repetition is greater than the last one.
     ReversedCount,
-    /// A test or an option holds what cannot fail.
+    /// The operand of a predicate or of an option cannot fail.
     IdleTest,
     /// An expression matches nowhere.
     NeverMatches,
@@ -112,7 +113,8 @@ pub enum Code {
     ManyCopies,
     /// An alternative is the same as one before it.
     RepeatedAlternative,
-    /// A list is run otherwise than it is written.
+    /// The optimizer changes a list such that the rule may match more than it does as it is
+    /// written.
     RewrittenList,
     /// A rule has the name of a keyword of Rust.
     KeywordName,
@@ -120,19 +122,20 @@ pub enum Code {
     BuiltinName,
     /// A rule has the type and the body of one before it.
     RepeatedBody,
-    /// The stack is read, and no bound is known for the time of matches.
+    /// A rule reads pest's stack, so its matches may take exponential time.
     StackRead,
 }
 
 impl Code {
-    /// Its name, as `pest::left_recursion`.
+    /// Returns the name of the code, such as `pest::left_recursion`.
     pub fn name(self) -> &'static str
         ensures { result.now ≡ code_name self }
     {
         facts_of(self).name
     }
 
-    /// The code of a name, with or without `pest::`.
+    /// Returns the code with the name `name`, which may be with or without `pest::`. Returns `None`
+    /// if there is none.
     pub fn from_name(name: &str) -> Option<Code>
         ensures named { IfSome result (λ code. has_name code name.now ≡ true) }
         ensures unknown { IfNone result (IsUnknown name.now) }
@@ -161,21 +164,23 @@ impl Code {
         facts_of(self).report.is_on_request()
     }
 
-    /// Whether a text with such a diagnostic is refused.
+    /// Returns the severity of the diagnostics of the code. If it is `Severity::Error`, a text with
+    /// such a diagnostic is refused.
     pub fn severity(self) -> Severity
         ensures { result ≡ severity_of self }
     {
         facts_of(self).report.severity()
     }
 
-    /// The message of its warnings; nothing of an error, which has a message of its own.
+    /// Returns the message of the warnings of the code. For an error it is empty, since an error
+    /// has a message of its own.
     pub fn message(self) -> &'static str
         ensures { result.now ≡ message_of self }
     {
         facts_of(self).message
     }
 
-    /// Its page: when it is reported, an example, and how to mend it.
+    /// Returns the page of the code: when it is reported, an example, and how to correct it.
     pub fn explanation(self) -> &'static str {
         facts_of(self).page
     }

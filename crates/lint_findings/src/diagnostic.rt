@@ -6,25 +6,27 @@ use crate::codes::{Code, Severity};
 use lint_hints::{Help, Related};
 use std::alloc::{AllocError, Global};
 
-/// A diagnostic of a text. Positions are bytes.
+/// A diagnostic of a text. Positions are in bytes, from 0.
 #[derive(Debug, Drop)]
 pub struct Diagnostic {
     pub code: Code,
     pub severity: Severity,
     /// The byte at which it begins.
     pub start: usize,
-    /// The byte after its end. If it is a position, this is its start.
+    /// The byte before which it ends. If the diagnostic has a position and no span, this is
+    /// `start`.
     pub end: usize,
     pub message: String,
-    /// The expected set of a syntax error, by name, in the order of the meta-grammar.
+    /// The names that are expected at a syntax error, in the order of the meta-grammar. Empty for
+    /// any other diagnostic.
     pub expected: Vec<&'static str>,
-    /// Other parts of the text that matter to it.
+    /// Other parts of the text that the message is about.
     pub related: Vec<Related>,
-    /// How it may be mended.
+    /// How the text may be corrected, if that is known.
     pub help: Option<Help>,
 }
 
-/// Facts about a grammar beside its text.
+/// What a caller knows about a grammar, besides its text.
 #[derive(Clone, Copy)]
 pub struct Options<'o> {
     /// Rules that need no call, since matching starts with them.
@@ -39,7 +41,8 @@ impl Default for Options<'_> {
 }
 
 impl Diagnostic {
-    /// A diagnostic of this code at the bytes `start..end`, with nothing but a message.
+    /// Returns a diagnostic of the code `code` at the bytes `start..end`, with the message
+    /// `message`, and without expected names, related parts and help.
     pub(crate) fn new(
         alloc: Global,
         code: Code,

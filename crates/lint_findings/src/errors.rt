@@ -25,8 +25,11 @@ use std::alloc::{AllocError, Global};
 /// The most calls of a left recursion that are shown.
 const MOST_CALLS: usize = 19;
 
-/// The diagnostics of why a text is not opened, in the order of the errors with which it is refused. The only
-/// error is an allocation failure.
+/// Returns the diagnostics of `error`, with which `open` refused `text`, in the order of the errors
+/// of `parse_and_optimize`.
+///
+/// # Errors
+/// `AllocError` if an allocation fails, or if `error` is `OpenError::Memory`.
 pub fn diagnose_refusal(
     alloc: Global,
     text: &str,

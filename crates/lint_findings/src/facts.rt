@@ -8,17 +8,18 @@ use crate::codes::{Code, Report};
 #[derive(Clone, Copy)]
 pub struct Facts {
     pub code: Code,
-    /// Its name, as `pest::left_recursion`.
+    /// The name of the code, such as `pest::left_recursion`.
     pub name: &'static str,
-    /// The fault in a few words.
+    /// What is wrong, in a few words.
     pub summary: &'static str,
-    /// How diagnostics of it are reported.
+    /// How diagnostics of the code are reported.
     pub report: Report,
-    /// The message of its warnings; nothing of an error, which has a message of its own.
+    /// The message of the warnings of the code. For an error it is empty, since an error has a
+    /// message of its own.
     pub message: &'static str,
-    /// How it is mended, if that depends on nothing else.
+    /// The help of the code, if it is the same for all its diagnostics.
     pub help: Option<&'static str>,
-    /// When it is reported, an example, and how to mend it.
+    /// The page of the code: when it is reported, an example, and how to correct it.
     pub page: &'static str,
 }
 

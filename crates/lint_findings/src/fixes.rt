@@ -15,11 +15,11 @@ use std::alloc::{AllocError, Global};
 /// The most fixes that are applied to a text.
 const MOST_FIXES: usize = 100;
 
-/// A text with fixes applied.
+/// A text after fixes, with the fixes that were applied.
 #[derive(Drop)]
 pub struct Mended {
     pub text: String,
-    /// How many fixes of syntax errors were applied.
+    /// The number of fixes of syntax errors that were applied.
     pub count: usize,
     /// The fixes that were applied, in order.
     pub applied: Vec<Applied>,
@@ -30,7 +30,7 @@ pub struct Mended {
 /// A fix that was applied.
 #[derive(Drop)]
 pub struct Applied {
-    /// The line, from 1, at which it began in the text that it changed.
+    /// The line, from 1, of the first byte that the fix changed, in the text before this fix.
     pub line: usize,
     /// The change, in words.
     pub title: String,
@@ -52,9 +52,14 @@ struct Fixed {
     error: Option<usize>,
 }
 
-/// Fixes the syntax errors of the grammar `text`, one after another, by at most 100 fixes. Unsafe fixes are
-/// applied only if `takes_unsafe` is true. Each fixed text is read again. A fix is applied only if the fixed
-/// text has no syntax error, or has one after the replacement and after the error before.
+/// Fixes the syntax errors of the grammar `text`, one after another, by at most 100 fixes. Unsafe
+/// fixes are applied only if `takes_unsafe` is true. After each fix the text is read again. A fix
+/// is kept only if the fixed text has no syntax error, or if its syntax error is at a later
+/// position. This position must be after the replacement, and after the position of the error that
+/// was fixed.
+///
+/// Returns the fixed text, the fixes that were applied, and the position of the syntax error that
+/// is left, if there is one, in bytes.
 ///
 /// # Errors
 /// `AllocError` if an allocation fails.
@@ -130,8 +135,8 @@ fn fix_once(
     }))
 }
 
-/// Returns whether a fix of this applicability may be applied: a safe one always, an unsafe one only if
-/// `takes_unsafe` is true.
+/// Returns whether a fix with the applicability `applicability` may be applied. A safe fix may
+/// always be applied. An unsafe fix may be applied if `takes_unsafe` is true.
 pub fn is_allowed(applicability: Applicability, takes_unsafe: bool) -> bool
     ensures { result ≡ is_allowed takes_unsafe applicability }
 {

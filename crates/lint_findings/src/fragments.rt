@@ -1,4 +1,4 @@
-//! Parts of a text, with their places.
+//! Parts of a text, with their positions in the text, in bytes.
 ghost use Rattle.std.specs.Prelude.{◌≡◌, ◌+◌, ◌^◌, ◌<◌, ◌∷◌};
 ghost use Rattle.std.specs.Prelude.{◌++◌, [], OnOk, IfOk, length, map};
 ghost use Rattle.std.specs.Str.{IsCharBoundary};
@@ -12,7 +12,7 @@ pub struct Fragment<'t> {
     pub start: usize,
     /// The byte of the text before which it ends.
     pub end: usize,
-    /// Its own text.
+    /// The text of the part.
     pub text: &'t str,
     pub ghost long: { start + length text.now ≡ end },
 }
@@ -31,8 +31,8 @@ impl<'t> Fragment<'t> {
         }
     }
 
-    /// The part of a text from the byte `from` up to the byte `to`. It is empty if these are not in order, or
-    /// not at the bounds of characters.
+    /// Returns the part of the text from the byte `from` up to the byte `to`. If `to` is before
+    /// `from`, or one of them is inside a character or after the end, the part is empty.
     pub(crate) fn between(text: &'t str, from: usize, to: usize) -> Self
         ensures { IsCharBoundary text.now from → IsCharBoundary text.now to
             → fragment_of result ≡ between text.now from to }
@@ -66,8 +66,8 @@ impl<'t> Fragment<'t> {
         }
     }
 
-    /// The parts of the fragment between separators, without the white space around them. The only error is
-    /// an allocation failure.
+    /// Returns the parts of the fragment between separators. White space at the ends of a part is
+    /// left out. The only error is an allocation failure.
     pub(crate) fn split(
         self,
         alloc: Global,

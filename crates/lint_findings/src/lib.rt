@@ -1,4 +1,4 @@
-//! Diagnostics of grammars as data, made of errors and of rules.
+//! Diagnostics of grammars as data. They are made from the errors or from the rules of a grammar.
 #![tactic(auto)]
 
 mod allowances;

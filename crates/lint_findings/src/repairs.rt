@@ -27,9 +27,9 @@ struct Repair {
     is_whole: bool,
 }
 
-/// Returns a hint for the syntax error of the grammar `text` at the byte `error`. Its fix mends the lines
-/// that it changes: no syntax error is left in them. A safe fix splits, joins and drops no string and no
-/// character. The time is linear in the text.
+/// Returns a hint for the syntax error of the grammar `text` at the byte `error`. If the hint has a
+/// fix, the fix leaves no syntax error in the lines that it changes. A safe fix splits, joins and
+/// removes no string and no character literal. The time is linear in the bytes of `text`.
 ///
 /// # Errors
 /// `AllocError` if an allocation fails.

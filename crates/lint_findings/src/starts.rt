@@ -10,9 +10,10 @@ use std::alloc::{AllocError, Global};
 /// How a comment that names starts begins.
 const PREFIX: &str = "//! pest-lint: start(";
 
-/// Returns the starts that a text states itself: the names in its first line `//! pest-lint: start(a, b)`, in
-/// order. If there is no such line, there are none. The time is linear in the bytes of the text. The only
-/// error is an allocation failure.
+/// Returns the starts that `text` names itself: the names in its first line of the form
+/// `//! pest-lint: start(a, b)`, in order, with their positions in bytes. If there is no such line,
+/// the list is empty. The time is linear in the bytes of `text`. The only error is an allocation
+/// failure.
 pub fn stated_starts<'t>(alloc: Global, text: &'t str) -> Result<Vec<Fragment<'t>>, AllocError>
     ensures { IfOk result (λ names. map fragment_of names.items ≡ spec.stated_starts text.now) }
 {

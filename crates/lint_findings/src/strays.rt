@@ -1,4 +1,4 @@
-//! Starts that no rule has.
+//! Named starts that are the name of no rule.
 ghost use Rattle.std.specs.Prelude.{◌≡◌, ℕ, Bool, IfOk, List, chars, filter, map, not};
 ghost use Rattle.std.specs.List.{AllZip};
 ghost use Rattle.base_language.specs.Language.Builtins.{is_one_of};
@@ -24,7 +24,8 @@ use std::collections::HashSet;
 /// The greatest number of unknown starts of a text for which a similar name is looked for.
 const NAMES_LOOKED_UP: usize = 20;
 
-/// The warnings of those starts that no rule has. The only error is an allocation failure.
+/// Returns a warning for each named start that is the name of no rule. The only error is an
+/// allocation failure.
 pub fn diagnose_starts(
     alloc: Global,
     rules: &[ParserRule<'_>],

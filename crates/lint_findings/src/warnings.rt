@@ -27,7 +27,9 @@ use lint_warnings::{Suspect, blanks_in_tokens, suspect_spans, uncalled_rules};
 use std::alloc::{AllocError, Global};
 use std::collections::HashMap;
 
-/// The warnings of rules, code by code; rules of the names `starts` need no call.
+/// Returns the warnings of `rules`, code by code, without those that are reported only on request.
+/// The rules with the names `starts` are starts, which need no call. The only error is an
+/// allocation failure.
 pub fn diagnose_rules(
     alloc: Global,
     rules: &[ParserRule<'_>],
@@ -41,7 +43,8 @@ pub fn diagnose_rules(
     diagnose_codes(alloc, &codes, rules, starts)
 }
 
-/// All warnings of rules, those that are reported only if they are asked for, too.
+/// Returns the warnings of `diagnose_rules`, and then those that are reported only on request. The
+/// only error is an allocation failure.
 pub fn diagnose_all_rules(
     alloc: Global,
     rules: &[ParserRule<'_>],
@@ -175,7 +178,8 @@ fn diagnose_spans(
     report_spans(alloc, code, &spans, &twins, &bodies)
 }
 
-/// The warning of a rule with this name, in which pest runs a list otherwise than it is written, with notes.
+/// Returns the warning that the optimizer changes a list in the rule with this name. The warning
+/// has notes. The only error is an allocation failure.
 pub fn diagnose_list(
     alloc: Global,
     name: Span<'_>,
@@ -190,7 +194,8 @@ pub fn diagnose_list(
     Ok(diagnostic)
 }
 
-/// By the byte where a warning of a code begins, the bytes of what is the same before it, if that is told.
+/// Returns a map from the byte at which a warning of the code begins to the bytes of the earlier
+/// part that is the same. It is empty if warnings of the code do not report such a part.
 fn twins_of(
     alloc: Global,
     code: Code,

@@ -28,8 +28,9 @@ ghost use Rattle.matcher_code.specs.Sizes.{least_steps, size};
 /// If the operation 0 is `Fail` and each point of a list is laid by points of the list, the code of a
 /// point does its task: from each state, and for each outcome of the task there, the machine comes to where
 /// the outcome goes on, with its trees, the furthest position of its failures and the numbers of the names
-/// that are expected where they are asked for, in at most eight steps for each rule of the relation of matching
-/// that the derivation applies. Code that is not exact is asked for nothing at any place of the text.
+/// that are expected where they are asked for, in at most eight steps for each rule of the relation of
+/// matching that the derivation applies. Code that is not exact is asked for nothing at any place of the
+/// text.
 pub fn laid_code_does_its_task()
     ensures { (exact : Bool) (g : Grammar) (classes : Classes) (code : CodeLists) (number : Text → ℕ)
         (points : List Point) → op_at code [] 0 ≡ op.Fail → AreLaid exact g classes code number points

@@ -20,20 +20,21 @@ use matcher_code::state::Places;
 use matcher_program::answers::Stop;
 use std::alloc::Global;
 
-/// The rules that an error of pest names, and its place.
+/// The rules that an error of pest names, and the position of the error.
 #[derive(Debug, Drop)]
 pub struct Attempts {
-    /// The greatest position, in bytes, of a call that is recorded; 0 if none is.
+    /// The greatest position, in bytes, of a recorded call, or 0 if no call is recorded.
     pub place: usize,
-    /// The numbers of the rules that are expected there, in the order of their calls, as often as they are
-    /// recorded.
+    /// The indices of the rules that are expected at this position, in the order of their calls. An
+    /// index may be in the list several times.
     pub positives: Vec<u32>,
-    /// The numbers of the rules that are not expected there, so too.
+    /// The indices of the rules that are not expected at this position, in the same form.
     pub negatives: Vec<u32>,
 }
 
-/// Runs code for the rule of a number from a position of a text on, in at most `steps` steps. Returns the
-/// rules that are recorded at `place`, with the greatest position of a call that is recorded, from there on.
+/// Runs `code` for the rule with the index `number` from `start` on, in at most `steps` steps.
+/// Returns the rules that are recorded at the byte `place`. The position in the result is the
+/// greatest one of a recorded call, and at least `place`.
 fn attempts_at(
     alloc: Global,
     code: &Bytecode<'_>,
@@ -66,9 +67,10 @@ fn attempts_at(
     })
 }
 
-/// Runs code for the rule of a number from a position of a text on, in at most `steps` steps, until it is
-/// asked at the greatest position of a call that is recorded: at `place` first. Returns the rules that are
-/// recorded there.
+/// Runs `code` for the rule with the index `number` from `start` on, at most three times, and in at
+/// most `steps` steps each. The first run looks at the byte `place`. A further run looks at the
+/// greatest position of a recorded call in the run before. Returns the rules that are recorded at
+/// the last position.
 pub(crate) fn find_attempts(
     alloc: Global,
     code: &Bytecode<'_>,

@@ -1,4 +1,4 @@
-//! Blocks: rules compiled once, to bytes from which they are run in place.
+//! Blocks: compiled grammars as bytes. Their rules are run without a copy of these bytes.
 mod head;
 mod making;
 mod names;

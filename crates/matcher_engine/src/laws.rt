@@ -9,14 +9,15 @@ ghost use Rattle.matcher_engine.specs.Limits.{HasOutcomeFrom};
 ghost use Rattle.matcher_program.specs.Programs.{Fits};
 ghost use Rattle.matcher_program.specs.declared.form.Property.{Property};
 
-/// The sum of a block is FNV-1a of 64 bits, by some of its published values.
+/// `sum_of`, the checksum of a block, gives three published values of FNV-1a of 64 bits.
 pub fn sums_are_fnv_1a()
     ensures empty { sum_of [] ≡ 14695981039346656037 }
     ensures one_byte { sum_of (codes "a") ≡ 12638187200555641996 }
     ensures six_bytes { sum_of (codes "foobar") ≡ 9625390261332436968 }
 {}
 
-/// Bytes that differ in one have different sums, so `check_block` refuses a block with one byte changed.
+/// If two lists of bytes differ in exactly one byte, their checksums differ. So `check_block`
+/// refuses a block in which exactly one byte was changed.
 pub fn other_bytes_have_other_sums()
     ensures { (front rest : List ℕ) (a b : ℕ) → All (λ x. x < 256) rest → a < 256 → b < 256
         → sum_of (front ++ a ∷ rest) ≡ sum_of (front ++ b ∷ rest) → a ≡ b }

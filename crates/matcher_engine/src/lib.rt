@@ -1,4 +1,4 @@
-//! A matcher that runs compiled rules, and compiled rules as blocks of bytes.
+//! Compiled grammars as blocks of bytes, and the matcher that runs them.
 #![tactic(auto)]
 
 pub mod attempts;

@@ -2,20 +2,20 @@
 ghost use Rattle.std.specs.Prelude.{◌≡◌, ◌≤◌};
 ghost use Rattle.matcher_engine.specs.Limits.{steps_of};
 
-/// How many operations of a program are run for each step that is allowed, and how many turns of a run with a
-/// memo table.
+/// The number of operations in a step, and the number of turns in a step of a run with a memo
+/// table.
 pub(crate) const OPERATIONS: u64 = 4;
 
-/// The greatest limit: the steps of the greatest number of operations that a `u64` holds.
+/// The limit of a run that is given none, in steps. Its operations still fit a `u64`.
 const MOST_STEPS: u64 = u64::MAX / OPERATIONS;
 
-/// The steps of a run without a memo table for each byte of a text, and those for each text. Nearly all texts
-/// take fewer.
+/// The steps of the first run for each byte of the text. `FIRST_STEPS` are added to them. Nearly
+/// all texts take fewer.
 const FIRST_STEPS_PER_BYTE: u64 = 32;
 
 const FIRST_STEPS: u64 = 16_384;
 
-/// Returns the greatest number of steps within `limit`.
+/// Returns the number of steps that `limit` allows: 2^62 - 1 if it is `None`.
 pub(crate) fn most_steps(limit: Option<u64>) -> u64
     ensures { result ≡ steps_of limit }
 {

@@ -1,4 +1,4 @@
-//! Marks of records of calls.
+//! Marks: what a tracer has recorded when a call or a `!` begins.
 
 /// The record of a run when a call or a `!` begins: how many calls were open, how many paths and attempts
 /// there were, whether the run stood below a `!`, and the greatest position of an attempt.

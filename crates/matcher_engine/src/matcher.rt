@@ -22,18 +22,19 @@ use matcher_machine::machine::{Machine, RunEnd};
 use matcher_program::answers::{Stop, whole_text};
 use std::alloc::Global;
 
-/// A match by its trees in preorder.
+/// The match of a rule: its end, its furthest failure, and its trees in preorder.
 #[derive(Drop)]
 pub struct ParseTree {
-    /// The trees, each before its descendants. `rule` of a tree is the number of its rule.
+    /// The trees, each before the trees inside it. The member `rule` of a tree is the index of its
+    /// rule.
     pub trees: Vec<TreeNode>,
-    /// The position after the match, in bytes.
+    /// The position at which the match ends, in bytes.
     pub end: usize,
-    /// The furthest position, in bytes, at which a call that counts failed; 0 if none did.
+    /// The furthest position, in bytes, at which a counted call failed, or 0 if none did.
     pub furthest: usize,
 }
 
-/// Returns whether the text of a position has more bytes than a tree can count.
+/// Returns whether the text of `start` has 2^32 bytes or more.
 pub(crate) fn has_long_text(start: Position<'_>) -> bool
     ensures long { result ≡ true → 2 ^ 32 ≤ text_size (state_at start.entry) }
     ensures short { result ≡ false → length (position_text start.entry) < 2 ^ 32 }
@@ -41,15 +42,17 @@ pub(crate) fn has_long_text(start: Position<'_>) -> bool
     whole_text(start).len() > u32::MAX as usize
 }
 
-/// Returns the label of the call of the rule of a number from outside, if a `u32` holds it.
+/// Returns the label at which a run of the rule with the index `number` begins, or `None` if no
+/// `u32` holds it.
 pub(crate) fn entry_of(number: usize) -> Option<u32>
     ensures { IfSome result (λ entry. entry ≡ number + 3) }
 {
     u32::try_from(number.checked_add(3)?).ok()
 }
 
-/// Runs code, fused, for the rule of a number from a position of a text on, in at most `steps` steps. Returns
-/// the end of the match, or `None` if the rule fails.
+/// Runs `code`, with its fused operations `fused`, for the rule with the index `number` from
+/// `start` on. The run takes at most `steps` steps. Returns the end of the match, in bytes, or
+/// `None` if the rule fails.
 pub(crate) fn run_rule(
     machine: &mut Machine,
     alloc: Global,

@@ -27,9 +27,11 @@ use std::alloc::{AllocError, Global};
 pub(crate) enum PackratEnd {
     /// The rule matches.
     Matched(ParseTree),
-    /// The rule fails; the furthest position, in bytes, at which a call that counts failed, or 0.
+    /// The rule fails. This is the furthest position, in bytes, at which a counted call failed, or
+    /// 0 if none did.
     Failed(usize),
-    /// None: the run uses the stack, never ends, or takes more turns than are allowed.
+    /// The run has no answer, since it uses the stack, never ends, or takes more turns than are
+    /// allowed.
     Unanswered,
 }
 

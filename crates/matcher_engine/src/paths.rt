@@ -1,4 +1,4 @@
-//! The calls that are open where a text fails.
+//! The calls that are open at the position of a failure.
 ghost use Rattle.std.specs.Prelude.{◌≡◌, Some, true};
 ghost use Rattle.base_language.specs.Language.Expression.{last_place};
 ghost use Rattle.base_language.specs.Language.Text.{Text};
@@ -22,8 +22,8 @@ use std::alloc::Global;
 /// A position that no text has.
 pub(crate) const NOWHERE: usize = usize::MAX;
 
-/// Runs code for the rule of a number from a position of a text on, in at most `steps` steps. Returns what is
-/// recorded where it is asked.
+/// Runs `code` for the rule with the index `number` from `start` on, in at most `steps` steps.
+/// Returns what is recorded at the positions in `asked`.
 pub(crate) fn trace_rule(
     alloc: Global,
     code: &Bytecode<'_>,

@@ -21,27 +21,27 @@ const ATTEMPTS: usize = 65_535;
 #[derive(Drop)]
 pub struct Tracer {
     pub machine: Machine,
-    /// The calls that count and are open, the outermost first.
+    /// The counted calls that are open, the outermost first.
     pub calls: Vec<OpenCall>,
     /// The calls that were open when a rule was expected, each list once.
     pub paths: Vec<Vec<OpenCall>>,
-    /// Whether the run stands below a `!`, or below an odd number of them.
+    /// Whether the run is below an odd number of `!`.
     pub below: bool,
-    /// The position, in bytes, at which attempts are recorded. Paths are recorded where the machine is
-    /// asked for names.
+    /// The position, in bytes, at which attempts are recorded. Paths are recorded at the position
+    /// at which the machine is asked for names.
     pub place: usize,
-    /// The greatest position of an attempt, from that one on.
+    /// The greatest position, in bytes, of an attempt, and at least `place`.
     pub furthest: usize,
-    /// The numbers of the rules that are expected there, as often as they are told.
+    /// The indices of the rules that are expected at `place`. An index may occur several times.
     pub positives: Vec<u32>,
-    /// The numbers of those that are not expected there.
+    /// The indices of the rules that are not expected at `place`. An index may occur several times.
     pub negatives: Vec<u32>,
-    /// One for each frame, or none for that of a choice or of a call that gives no token.
+    /// A mark for each frame, or `None` for the frame of a choice or of a call that gives no token.
     pub marks: Vec<Option<Mark>>,
     ghost marked: { HaveMarks calls paths positives negatives marks } by { marks-prop _ marks },
 }
 
-/// Appends a rule to attempts. Errors: allocation failed, or there are too many.
+/// Appends `rule` to `rules`. The error is an allocation failure, or that `rules` has 65,535 rules.
 fn push_rule(rules: &mut Vec<u32>, rule: u32) -> Result<(), AllocError>
     ensures rule { OnOk result (rules.new.items ≡ rules.old.items ++ rule ∷ []) }
     ensures kept { length rules.old.items ≤ length rules.new.items }
@@ -64,7 +64,7 @@ impl Tracer {
     ghost use Rattle.matcher_engine.specs.Marks.{AreMarked, IsWithin, counts_of};
     ghost use Rattle.matcher_engine.specs.Traces.{TracedFollows, asked_of, first, mark_of, own_trace, paths_in, frame_trace, frame_traces, trace_after, trace_at, trace_of, traced_config, traces_after};
 
-    /// Records the calls of a machine from here on, and attempts at a position.
+    /// Returns a tracer that records the calls of `machine`, and the attempts at the byte `place`.
     pub fn new(alloc: Global, machine: Machine, place: usize) -> Tracer
         ensures machine { result.machine ≡ machine }
         ensures place { result.place ≡ place }
@@ -84,7 +84,7 @@ impl Tracer {
         }
     }
 
-    /// Returns the mark of what is recorded.
+    /// Returns a mark with the counts of what is recorded so far.
     fn mark(&self) -> Mark
         ensures { result ≡ mark_of self.now }
     {
@@ -98,7 +98,7 @@ impl Tracer {
         }
     }
 
-    /// Marks a frame that is pushed by what is recorded. The only error is an allocation failure.
+    /// Pushes the mark of a frame that is pushed now. The only error is an allocation failure.
     fn push_mark(&mut self) -> Result<(), AllocError>
         ensures traces { OnOk result (frame_traces self.new ≡ own_trace self.old ∷ frame_traces self.old) }
         ensures trace { trace_of self.new ≡ trace_of self.old }
@@ -143,7 +143,7 @@ impl Tracer {
         }
     }
 
-    /// Returns whether calls are one of the paths.
+    /// Returns whether the paths have this list of calls.
     fn has_path(&self, calls: &[OpenCall]) -> bool
         ensures { result ≡ has_path (paths_in self.now.paths.items) calls.now }
     {
@@ -155,8 +155,8 @@ impl Tracer {
         false
     }
 
-    /// Expects a rule at a position, within the open calls. Errors: allocation failed, or there are too many
-    /// paths.
+    /// Records that a rule is expected at a position, inside the open calls. The error is an
+    /// allocation failure, also if there are more than 1,024 paths.
     fn expect(&mut self, alloc: Global, rule: u32, at: usize) -> Result<(), AllocError>
         ensures trace { OnOk result
             (own_trace self.new ≡ add_path (open_call rule at ∷ []) (own_trace self.old)) }
@@ -176,9 +176,9 @@ impl Tracer {
         Ok(())
     }
 
-    /// Records the end of a call of a rule, which began at a position and has matched or failed, by the mark
-    /// of before it: its rule stands for the attempts within it, unless these are exactly one. Errors:
-    /// allocation failed, or there are too many attempts.
+    /// Records the end of a call of the rule with the index `rule`, which began at the byte `at`.
+    /// The mark `before` is that of the beginning of the call. The rule takes the place of the
+    /// attempts inside the call, unless there is exactly one. The error is that of `push_rule`.
     fn record_end(
         &mut self,
         matched: bool,
@@ -209,8 +209,8 @@ impl Tracer {
         Ok(())
     }
 
-    /// Appends the number of a rule to those that are expected, or below a `!` to those that are not. Errors:
-    /// allocation failed, or there are too many.
+    /// Appends `rule` to the rules that are expected, or below an odd number of `!` to those that
+    /// are not expected. The error is that of `push_rule`.
     fn push_attempt(&mut self, rule: u32) -> Result<(), AllocError>
         ensures trace { OnOk result (trace_of self.new ≡ record (trace_of self.old) {
           attempts = with_rule self.old.below rule (trace_of self.old).attempts;
@@ -265,7 +265,8 @@ impl Tracer {
         }
     }
 
-    /// Restores all but the attempts, as the mark of the last frame has it, if it has one.
+    /// If the last frame has a mark, restores the calls, the paths and `below` as they were at the
+    /// mark.
     fn restore(&mut self)
         ensures trace { own_trace self.new ≡ restore (first (frame_traces self.old)) (own_trace self.old) }
         ensures traces { frame_traces self.new ≡ frame_traces self.old }
@@ -301,7 +302,7 @@ impl Tracer {
         self.machine.frames.last().copied()
     }
 
-    /// Returns the tree of a number; one of nothing if there is none.
+    /// Returns the tree with this number, or a tree of no characters if there is none.
     fn tree_at(&self, number: usize) -> TreeNode
         ensures { result ≡ get_or self.now.machine.trees.items number no_tree }
     {
@@ -460,8 +461,12 @@ impl Tracer {
         self.machine.step_at(code, text, pc, at)
     }
 
-    /// Runs a program on a text, from an operation and a position in bytes, in at most `steps` steps. Errors:
-    /// allocation failed, or there are more than 1,024 paths, or 65,535 attempts of a kind.
+    /// Runs `code` on `text`, from the operation `entry` and the byte `from` on, for at most
+    /// `steps` operations. A step of a limit is four of these operations.
+    ///
+    /// # Errors
+    /// `AllocError` if an allocation fails, if there are more than 1,024 paths, or if there are
+    /// more than 65,535 attempts of a kind.
     pub fn run(
         &mut self,
         alloc: Global,

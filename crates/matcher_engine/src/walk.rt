@@ -16,12 +16,13 @@ use std::alloc::{AllocError, Global};
 /// A tree that a walk comes to.
 #[derive(Clone, Copy, Debug)]
 pub struct VisitedTree<'m> {
-    /// The name of its rule.
+    /// The name of the tree's rule.
     pub rule: &'m str,
+    /// The index of the rule, and the start and the end of the tree, in bytes.
     pub node: TreeNode,
-    /// Its number in preorder, from 0 on.
+    /// The index of the tree in preorder, from 0.
     pub number: usize,
-    /// The number of trees that contain it.
+    /// The number of trees around this one: 0 for an outermost tree.
     pub depth: usize,
 }
 
@@ -32,7 +33,7 @@ pub enum Visit<'m> {
     Leave(VisitedTree<'m>),
 }
 
-/// A walk over the trees of a match, with the names of their rules. Its list has the open trees.
+/// A walk over the trees of a match, with the names of their rules.
 #[derive(Drop)]
 pub struct TreeWalk<'m, 't> {
     names: &'m [&'m str],
@@ -43,7 +44,7 @@ pub struct TreeWalk<'m, 't> {
     pending: Vec<VisitedTree<'m>>,
 }
 
-/// Returns the name of a number among names, or `EOI` for a number that is none's.
+/// Returns the name with the index `rule` in `names`, or `EOI` if `names` has no such index.
 #[inline(always)]
 pub fn text_name<'a>(names: &'a [&'a str], rule: u32) -> &'a str
     ensures { chars result.now ≡ name_in (name_texts names.entry.now) rule }
@@ -54,7 +55,7 @@ pub fn text_name<'a>(names: &'a [&'a str], rule: u32) -> &'a str
     }
 }
 
-/// Begins a walk over the trees of a match, with the names of the rules in order.
+/// Begins a walk over the trees of the match `found`. `names` has the names of all rules, in order.
 pub fn walk_names<'m, 't>(
     alloc: Global,
     names: &'m [&'m str],
@@ -73,7 +74,8 @@ pub fn walk_names<'m, 't>(
 }
 
 impl<'m> TreeWalk<'m, '_> {
-    /// Returns the next event, or `None` after the last one.
+    /// Returns the next event, or `None` after the last one. The walk enters a tree before the
+    /// trees inside it, and leaves it after them.
     ///
     /// # Errors
     /// `AllocError` if an allocation fails.

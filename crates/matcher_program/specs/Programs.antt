@@ -108,7 +108,8 @@ module _ (names : List Text) where
   expression_of (form.PeekSlice i j) = spec.PeekSlice i j
 
   abbrev pub grammar_rule : ProgramRule → Rule
-  grammar_rule r = record { name = text_of r.name; type_of = rule_type_of r.kind; body = expression_of r.body }
+  grammar_rule r =
+      record { name = text_of r.name; type_of = rule_type_of r.kind; body = expression_of r.body }
 
 -- the names of program rules, and the grammar that the program rules represent
 abbrev pub names_of : List ProgramRule → List Text

@@ -11,14 +11,16 @@ use crate::compiled::names_of;
 use matcher_engine::attempts::Attempts;
 use std::alloc::{AllocError, Global};
 
-/// The rules that an error of pest names, and its place.
+/// The names of the rules that an error of pest names, and the position of the error.
 #[derive(Drop)]
 pub struct NamedAttempts<'m> {
-    /// The position in bytes.
+    /// The position of the error, in bytes.
     pub place: usize,
-    /// The names of the rules that are expected there, each once, in the order of their calls.
+    /// The names of the rules that are expected at this position, each once, in the order of their
+    /// first calls.
     pub positives: Vec<&'m str>,
-    /// The names of the rules that are not expected there, since a `!` refused them, so too.
+    /// The names of the rules that are not expected at this position, since a `!` refused them.
+    /// They have the same order.
     pub negatives: Vec<&'m str>,
 }
 

@@ -26,7 +26,8 @@ use matcher_program::answers::Stop;
 use matcher_program::texts::same;
 use std::alloc::{AllocError, Global};
 
-/// A compiled grammar: its block, and the names of its rules in order.
+/// A compiled grammar whose rules are run by their names: its block, and the names of its rules in
+/// order.
 #[derive(Drop)]
 pub struct CompiledGrammar<'b> {
     block: &'b [u8],
@@ -34,7 +35,8 @@ pub struct CompiledGrammar<'b> {
 }
 
 impl<'b> CompiledGrammar<'b> {
-    /// Reads the rule names of the block `block`. Returns `None` if a name is not UTF-8.
+    /// Returns the compiled grammar of the block `block`, or `None` if the name of a rule is not
+    /// UTF-8. The version and the checksum of `block` are not verified here: see `check_block`.
     ///
     /// # Errors
     /// `AllocError` if an allocation fails, or if there are 2^32 rules or more.
@@ -76,15 +78,20 @@ impl<'b> CompiledGrammar<'b> {
         }
     }
 
-    /// Matches the rule named `rule` from the start of `text`. Each run takes at most `limit` steps, as in
-    /// `run_block`. If no rule uses the stack, the rule has an outcome, and the turns of the limit are more
-    /// than `most_turns`, `Stop::OutOfSteps` is not returned.
+    /// Matches the rule named `rule` from the start of `text`. Returns the match: its trees, its
+    /// end, and the position of its furthest failure. Positions are in bytes. If several rules have
+    /// the name, the last one is run.
+    ///
+    /// A run takes at most `limit` steps, and `None` means no limit, as in `run_block`.
+    /// `Stop::OutOfSteps` is not returned if three things are true. No rule uses the stack. The
+    /// rule has an outcome. The turns of the limit are more than `most_turns` of the code and the
+    /// text.
     ///
     /// # Errors
     /// - `BlockStop::NoRule` if no rule has the name.
     /// - `BlockStop::NoMatch` if the rule fails.
-    /// - `BlockStop::Stopped` if the run is stopped.
-    /// - `BlockStop::Flaw` if the bytes are no block.
+    /// - `BlockStop::Stopped` if the run is stopped, as in `run_block`.
+    /// - `BlockStop::Flaw` if the bytes of the block are no block of this version.
     pub fn match_text(
         &self,
         alloc: Global,
@@ -109,12 +116,13 @@ impl<'b> CompiledGrammar<'b> {
         run_block(alloc, self.block, number, start, limit)
     }
 
-    /// Returns the names that are expected at the byte `place`, in a run as by `match_text`. Each name is
-    /// there once, in the order in which the rules are first called there.
+    /// Returns the names of the rules that are expected at the byte `place` when `rule` is run on
+    /// `text`, as by `match_text`. A name is in the list once, in the order in which the rules are
+    /// first called at `place`. The run takes at most `steps` steps.
     ///
     /// # Errors
-    /// Those of `match_text`, except for `BlockStop::NoMatch`: a rule that fails has expected names, too.
-    /// `Stop::Memory` also if there are more than 65,535 names.
+    /// Those of `match_text`, except for `BlockStop::NoMatch`: a rule that fails has expected
+    /// names, too. `Stop::Memory` also if there are more than 65,535 names.
     pub fn expected_at(
         &self,
         alloc: Global,
@@ -142,11 +150,14 @@ impl<'b> CompiledGrammar<'b> {
         }
     }
 
-    /// Returns the rules that an error of pest names if the rule named `rule` fails on `text`, and the
-    /// position of that error, as `attempts_block`. The byte `place` is the first position to try.
+    /// Returns the rules that an error of pest names if the rule named `rule` fails on `text`. The
+    /// result also has the position of that error, in bytes. The byte `place` is the first position
+    /// to try: give the position in `BlockStop::NoMatch`. There are at most three runs, as in
+    /// `attempts_block`, and a run takes at most `steps` steps.
     ///
     /// # Errors
-    /// Those of `expected_at`.
+    /// Those of `expected_at`. `Stop::Memory` also if more than 65,535 rules are expected, or are
+    /// not expected.
     pub fn attempts(
         &self,
         alloc: Global,
@@ -174,8 +185,10 @@ impl<'b> CompiledGrammar<'b> {
         }
     }
 
-    /// Returns the calls that are open at the names of `expected_at`, as `paths_block`: a list for each path,
-    /// each list once.
+    /// Returns the calls that are open at the byte `place` when a rule of `expected_at` is expected
+    /// there, as `paths_block` does. A list is a path: the outermost call first, and the expected
+    /// one last. No path is returned twice. A call has the index of its rule, and its start in
+    /// bytes. The run takes at most `steps` steps.
     ///
     /// # Errors
     /// Those of `expected_at`. `Stop::Memory` also if there are more than 1,024 lists.
@@ -203,7 +216,8 @@ impl<'b> CompiledGrammar<'b> {
         }
     }
 
-    /// Begins a walk over the trees of a match that `match_text` has found.
+    /// Begins a walk over the trees of the match `found`, which `match_text` of this grammar
+    /// returned.
     pub fn walk<'m, 't>(&'m self, alloc: Global, found: &'t ParseTree) -> TreeWalk<'m, 't>
         ensures { (g : Grammar) → IsCompiledOf g self.entry.now → (n : Text) (s : State) (classes : Classes)
             → (x : HasParseTree g n s classes found.entry.now)
@@ -248,7 +262,7 @@ fn last_number(names: &[&str], name: &str) -> Option<usize>
     None
 }
 
-/// Returns the names of numbers. The only error is an allocation failure.
+/// Returns the names with the indices `rules` in `names`. The only error is an allocation failure.
 pub(crate) fn names_of<'m>(
     alloc: Global,
     names: &'m [&'m str],

@@ -6,8 +6,8 @@ ghost use Rattle.matcher_support.specs.Expectations.{failure_message, list_text,
 
 use std::alloc::{AllocError, Global};
 
-/// Returns pest's message for a position at which `names` are expected. The only error is an allocation
-/// failure.
+/// Returns pest's message for a position at which the rules with the names `names` are expected.
+/// The only error is an allocation failure.
 pub fn failure_message(alloc: Global, names: &[&str]) -> Result<String, AllocError>
     ensures { IfOk result (λ message. string_bytes message ≡ failure_message (name_texts names.now)) }
 {
@@ -19,7 +19,8 @@ pub fn failure_message(alloc: Global, names: &[&str]) -> Result<String, AllocErr
     Ok(message)
 }
 
-/// Adds some names: `a`, `a or b`, or `a, b, or c`.
+/// Appends `names` to `message` in the form `a`, `a or b`, or `a, b, or c`. The only error is an
+/// allocation failure.
 pub fn add_names(message: &mut String, names: &[&str]) -> Result<(), AllocError>
     ensures { OnOk result (string_bytes message.new
         ≡ string_bytes message.old ++ list_text (name_texts names.now)) }

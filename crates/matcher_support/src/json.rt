@@ -13,11 +13,13 @@ use matcher_engine::walk::{TreeWalk, Visit, VisitedTree};
 use serde_json::{Value, json};
 use std::alloc::{AllocError, Global};
 
-/// Returns the trees of a walk, of a text, and the end of the match as JSON.
+/// Returns the trees of `walk`, which is a walk over a match on `text`, and the end `end` of the
+/// match as JSON.
 ///
-/// The JSON is an object with `end` and the array `trees`. A tree is an object with `rule`, `start` and
-/// `end`; an inner tree has `children` too, and a leaf has `text`, its part of the text. Positions are in
-/// bytes. The depth of the trees takes no stack space. The only error is an allocation failure.
+/// The JSON is an object with `end` and the array `trees`. A tree is an object with `rule`, `start`
+/// and `end`. If the tree has children, it also has `children`. If it has none, it also has `text`,
+/// its part of the text. Positions are in bytes, from 0. The use of stack space does not depend on
+/// the depth of the trees. The only error is an allocation failure.
 pub fn tree_json(
     alloc: Global,
     text: &str,

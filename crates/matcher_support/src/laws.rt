@@ -16,7 +16,8 @@ pub fn wrapped_rules_show_tags()
         → Shows (wrapped_grammar g) classes (Run NonAtomicMode (Ident n)) s o (tagged d) }
 {}
 
-/// If a rule fails by wrapped rules, it has no other outcome by the rules themselves.
+/// If a rule fails by wrapped rules, its only possible outcome by the rules themselves is a
+/// failure.
 pub fn wrapped_rules_fail_alike()
     ensures { (g : Grammar) (classes : Classes) → CanWrap g → (n : Text) (s : State) (o : Outcome)
         → Does g classes (Run NonAtomicMode (Ident n)) s o

@@ -1,5 +1,5 @@
-//! Matches as programs use them: by the names of rules, tags, token trees as text and as JSON; and the sets
-//! of property names.
+//! What programs need for matches: runs by the names of rules, tags, token trees as text and as
+//! JSON, and the character sets of Unicode properties.
 #![tactic(auto)]
 
 pub mod attempts;

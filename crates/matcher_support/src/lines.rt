@@ -10,8 +10,9 @@ use itoa::write_digits;
 use matcher_engine::walk::{TreeWalk, Visit};
 use std::alloc::{AllocError, Global};
 
-/// Returns one line for each tree of a walk, before the lines of its children: the start and the end in
-/// bytes, the depth, and the rule, separated by blanks. The only error is an allocation failure.
+/// Returns one line for each tree of `walk`. The line of a tree is before the lines of its
+/// children. A line has the start and the end of the tree in bytes, its depth from 0, and the name
+/// of its rule. They are separated by blanks. The only error is an allocation failure.
 pub fn tree_lines(alloc: Global, mut walk: TreeWalk<'_, '_>) -> Result<String, AllocError>
     ensures { IfOk result (λ lines. (rule : Text → ℕ) (trees : Trees)
         → visits_left walk.entry ≡ visits rule 0 0 trees → string_bytes lines ≡ lines_of 0 trees) }

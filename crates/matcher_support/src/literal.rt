@@ -6,8 +6,9 @@ ghost use Rattle.base_ast.specs.Printing.{literal};
 use base_ast::printing::fmt_literal;
 use std::fmt;
 
-/// A text that is written in quotes, as a literal of a grammar. Quotes and backslashes are escaped by a
-/// backslash, and control characters are written by a letter or by their number, as by Rust's `Debug`.
+/// A text that is printed in quotes, as a literal of a grammar is written. Quotes and backslashes
+/// are escaped by a backslash. Control characters are printed as a letter or a number after a
+/// backslash, as Rust's `Debug` prints them.
 #[derive(Clone, Copy, Debug)]
 pub struct Literal<'a>(pub &'a str);
 

@@ -11,11 +11,12 @@ use crate::literal::Literal;
 use matcher_engine::walk::{TreeWalk, Visit, VisitedTree};
 use std::alloc::{AllocError, Global};
 
-/// Writes the trees of a walk, of a text, as lines of text.
+/// Returns the trees of `walk`, which is a walk over a match on `text`, as lines of text.
 ///
-/// A tree has a line of its own, two blanks further in than the one that holds it. A tree that another
-/// holds alone follows that on the same line. A tree that holds no other is followed by its part of the
-/// text in quotes. The only error is an allocation failure.
+/// The line of a tree has `- ` and the name of its rule. This line is indented by two blanks more
+/// than that of the tree around it. If a tree is the only child of another one, both share a line:
+/// `a > b`. If a tree has no children, its part of the text follows in quotes. The only error is an
+/// allocation failure.
 pub fn tree_text(
     alloc: Global,
     text: &str,
@@ -90,7 +91,7 @@ fn write_opening(
     }
 }
 
-/// Returns the next level. Errors: a `usize` does not hold it, which counts as an allocation failure.
+/// Returns `level + 1`, or an allocation failure if a `usize` does not hold the result.
 fn next_level(level: usize) -> Result<usize, AllocError>
     ensures { IfOk result (λ next. next ≡ level + 1) }
 {
@@ -121,8 +122,8 @@ fn write_leaf(lines: &mut String, text: &str, from: usize, to: usize) -> Result<
     write!(lines, ": {part}\n")
 }
 
-/// Returns the part of the text between two positions, or nothing if they are not between characters in
-/// this order.
+/// Returns the part of `text` from the byte `from` up to the byte `to`. If one of them is inside a
+/// character or after the end, or `to` is before `from`, the part is empty.
 pub(crate) fn part_of(text: &str, from: usize, to: usize) -> &str
     ensures { result.now ≡ part text.now from to }
 {

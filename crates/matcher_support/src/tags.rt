@@ -1,4 +1,5 @@
-//! Tags: rules whose matches show them as trees of wrappers, and the entries of a match, each with its tag.
+//! Tags: wrapped rules, whose matches have one more tree for each tag, and the tags of the other
+//! trees.
 
 pub mod entries;
 pub mod names;

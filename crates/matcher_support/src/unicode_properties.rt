@@ -20,8 +20,9 @@ impl Properties for UnicodeProperties {
 
     ghost classes = { is_in_property };
 
-    /// Returns the set of a property's name as ranges of code points, both ends included, or `None` if the
-    /// name is none of the 115. The only error is an allocation failure.
+    /// Returns the set of the property with the given name, as ranges of code points with both ends
+    /// included. Returns `None` if the name is none of the 115. The only error is an allocation
+    /// failure.
     fn ranges(&self, alloc: Global, name: &str) -> Result<Option<Vec<(u32, u32)>>, AllocError> {
         if is_property(name) {
             ranges_of(alloc, name)

@@ -137,7 +137,7 @@ impl Rebuild for LabellingFrame {
     }
 }
 
-/// Tags a terminal with what is printed of it.
+/// Returns `terminal` with a tag: its printed text. The only error is an allocation failure.
 fn add_label(alloc: Global, terminal: OptimizedExpr) -> Result<OptimizedExpr, AllocError>
     ensures { IfOk result (λ made. optimized_expression_of made
         ≡ NodeTag (optimized_expression_of terminal) (printed (optimized_expression_of terminal))) }
@@ -148,7 +148,8 @@ fn add_label(alloc: Global, terminal: OptimizedExpr) -> Result<OptimizedExpr, Al
     Ok(OptimizedExpr::NodeTag(operand.into_inner(), label))
 }
 
-/// Returns the type of a rule, by whether it is the rule of whitespace or comments, and by its own type.
+/// Returns the type of an exposed rule. `ty` is the type of the rule in the grammar, and
+/// `is_trivia` says whether the rule is `WHITESPACE` or `COMMENT`.
 fn token_type(is_trivia: bool, ty: RuleType) -> RuleType
     ensures { rule_type_of result ≡ token_type is_trivia (rule_type_of ty) }
 {
@@ -178,10 +179,15 @@ fn label_rule(alloc: Global, rule: &OptimizedRule) -> Result<Deep<OptimizedRule>
     })
 }
 
-/// Returns the rules of a grammar, and before them a rule for each terminal in their bodies, which they call.
-/// `label_of` of the name of such a rule is what is printed of the terminal. A rule that is one token, such
-/// as an atomic one, gives a token, and so do the rules of terminals; no other rule does. The only error is
-/// an allocation failure.
+/// Returns the exposed rules of `rules`. First comes a rule for each terminal in the bodies of
+/// `rules`. Then come the rules of `rules`, in order, which call the rules of the terminals.
+///
+/// The name of the rule of a terminal is a number, `#`, and the terminal as it is printed. These
+/// rules give tokens. So do the rules of `rules` with `@`, `$` or `!`, `WHITESPACE` and `COMMENT`.
+/// No other rule gives a token.
+///
+/// # Errors
+/// `AllocError` if an allocation fails.
 pub fn expose_terminals(
     alloc: Global,
     rules: &[OptimizedRule],

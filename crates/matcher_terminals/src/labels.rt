@@ -1,4 +1,4 @@
-//! What is told of the names that are expected by exposed rules: terminals as they are written in a grammar.
+//! Labels of the names that exposed rules expect: terminals as a grammar writes them.
 ghost use Rattle.std.specs.Prelude.{◌≡◌, IfOk, OnOk, [], chars};
 ghost use Rattle.base_language.specs.Language.Builtins.{is_one_of};
 ghost use Rattle.matcher_program.specs.ExpectedNames.{name_texts};
@@ -14,7 +14,8 @@ use std::alloc::{AllocError, Global};
 /// The greatest number of labels.
 const MOST: usize = 20;
 
-/// Returns what is told of the name of an exposed rule: a terminal as it is written, or the name itself.
+/// Returns the label of `name`, which is the name of an exposed rule. For the rule of a terminal,
+/// the label is the terminal as it is written. For another rule, it is the name.
 fn label_of(name: &str) -> &str
     ensures { chars result.now ≡ label_of (chars name.entry.now) }
 {
@@ -79,9 +80,15 @@ fn leave_trivia<'a>(alloc: Global, names: &[&'a str]) -> Result<Vec<&'a str>, Al
     Ok(left)
 }
 
-/// Returns what is told of names that are expected by the rules of `expose_terminals`, each once: terminals
-/// as they are written in a grammar, and rules that are one token by their names, at most 20. Whitespace and
-/// comments are told only if nothing else is. The only error is an allocation failure.
+/// Returns the labels of `names`, which are names that the rules of `expose_terminals` expect. The
+/// label of a terminal is the terminal as a grammar writes it. The label of another rule is its
+/// name.
+///
+/// A label is in the list once, in the order of `names`, and there are at most 20. `WHITESPACE` and
+/// `COMMENT` are left out, unless `names` has no other name.
+///
+/// # Errors
+/// `AllocError` if an allocation fails.
 pub fn labels_of<'a>(alloc: Global, names: &[&'a str]) -> Result<Vec<&'a str>, AllocError>
     ensures { IfOk result (λ labels. name_texts labels.items ≡ labels_of (name_texts names.entry.now)) }
 {

@@ -9,8 +9,9 @@ ghost use Rattle.matcher_support.specs.Spliced.{CanWrap};
 ghost use Rattle.matcher_terminals.specs.Exposed.{exposed, labelled_rule};
 ghost use Rattle.matcher_terminals.specs.Tried.{IsToldOf};
 
-/// A rule has the same outcomes by exposed rules, but for trees. The names that are expected there at each
-/// position are the terminals that the rules themselves try at it, and both get no further than one position.
+/// A rule has the same outcomes by exposed rules, except for its trees. At each position, the names
+/// that the exposed rules expect are the terminals that fail there in the derivation by the rules
+/// themselves. The furthest failure of both is at the same position.
 pub fn exposed_rules_expect_what_is_tried()
     ensures { (g : Grammar) (classes : Classes) → CanWrap (map labelled_rule g)
         → (n : Text) → is_builtin n ≡ false → (s : State) (o p : Outcome)

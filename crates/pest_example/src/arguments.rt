@@ -33,7 +33,7 @@ pub fn command<'a>(alloc: Global) -> Result<Command<'a>, AllocError> {
     add_argument(command, rule)
 }
 
-/// Returns an option with a number.
+/// Returns the option `--name` for a number, with the default `default`.
 fn number<'a>(alloc: Global, name: &'a str, help: &'a str, default: &'a str) -> Arg<'a> {
     option(alloc, name, help).default_value(default)
 }

@@ -8,14 +8,14 @@ pub struct Chance {
 }
 
 impl Chance {
-    /// Returns the generator of a seed.
+    /// Returns the generator with the seed `seed`.
     pub fn new(seed: u64) -> Chance {
         Chance {
             state: seed.wrapping_mul(0x9e37_79b9_7f4a_7c15) | 1,
         }
     }
 
-    /// Returns a number below `bound`, or 0 if `bound` is 0.
+    /// Returns the next pseudorandom number, which is less than `bound`. If `bound` is 0, it is 0.
     pub fn below(&mut self, bound: u32) -> u32
         ensures { bound ≢ 0 → result < bound }
     {
@@ -30,7 +30,7 @@ impl Chance {
         u32::try_from(state >> 33).unwrap_or(0) % bound
     }
 
-    /// Returns another generator, whose numbers are others.
+    /// Returns another generator, which gives other numbers than this one.
     pub fn split(&mut self) -> Chance {
         Chance::new(self.below(u32::MAX) as u64)
     }

@@ -6,7 +6,7 @@ use matcher_program::properties::Properties;
 use matcher_support::unicode_properties::UnicodeProperties;
 use std::alloc::{AllocError, Global};
 
-/// Returns some characters of a set that people type.
+/// Returns those characters of a set that are often typed.
 fn letters_of(set: CharSet) -> &'static str {
     match set {
         CharSet::Any => "abcxyz 019_-.é漢",
@@ -23,7 +23,7 @@ fn letters_of(set: CharSet) -> &'static str {
     }
 }
 
-/// Returns a character of a set.
+/// Returns a character of `set`, chosen by `chance`.
 pub fn character_of(set: CharSet, chance: &mut Chance) -> char {
     let letters = letters_of(set);
     let count = u32::try_from(letters.chars().count()).unwrap_or(1);
@@ -31,15 +31,16 @@ pub fn character_of(set: CharSet, chance: &mut Chance) -> char {
     letters.chars().nth(index).unwrap_or('a')
 }
 
-/// Returns a character between two, both included, or the first one if the other is no character.
+/// Returns a character from `low` to `high`, both included, chosen by `chance`. If the chosen
+/// number is no character, it returns the one of `low`.
 pub fn character_between(low: u32, high: u32, chance: &mut Chance) -> char {
     let count = high.saturating_sub(low).saturating_add(1);
     let number = low.saturating_add(chance.below(count));
     char::from_u32(number).unwrap_or(char::from_u32(low).unwrap_or('a'))
 }
 
-/// Returns a character of a property of Unicode, or `None` if there is no such property. The only error is
-/// an allocation failure.
+/// Returns a character with the Unicode property of the given name. Returns `None` if no property
+/// has the name. The only error is an allocation failure.
 pub fn character_with(
     alloc: Global,
     property: &str,

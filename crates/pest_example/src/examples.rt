@@ -17,19 +17,21 @@ use matcher_support::unicode_properties::UnicodeProperties;
 use std::alloc::{AllocError, Global};
 use std::collections::HashMap;
 
-/// The greatest number of steps of a match.
+/// The greatest number of steps of the match that checks a text.
 const MOST_STEPS: u64 = 1_000_000;
-/// How many texts are made for each one that is wanted.
+/// The greatest number of texts that are made for each example that is wanted.
 const TRIES: u32 = 200;
 
-/// What examples are asked for.
+/// The examples that a caller wants.
 #[derive(Clone, Copy)]
 pub struct ExampleRequest<'a> {
+    /// The name of the rule that matches the examples.
     pub rule: &'a str,
-    /// The number of examples.
+    /// The number of examples that are wanted.
     pub count: u32,
+    /// The seed of the pseudorandom numbers.
     pub seed: u64,
-    /// The number of choices that are left to chance.
+    /// The greatest number of choices in an example that are left to chance.
     pub size: u32,
 }
 
@@ -38,14 +40,15 @@ pub struct ExampleRequest<'a> {
 pub enum ExampleSearch {
     /// The texts that were found, in order, each once.
     Found(Vec<String>),
-    /// No rule has the name.
+    /// No rule has the name that the request has.
     NoRule,
     /// The rules cannot be run.
     Unfit,
 }
 
-/// Searches for texts that a rule matches to their end. The first try leaves no choice to chance. The only
-/// error is an allocation failure.
+/// Searches for texts that the rule `request.rule` of `rules` matches to their end. Returns at most
+/// `request.count` texts. The first text that is tried leaves no choice to chance. The only error
+/// is an allocation failure.
 pub fn find_examples(
     alloc: Global,
     rules: &[OptimizedRule],
@@ -71,7 +74,7 @@ pub fn find_examples(
     Ok(ExampleSearch::Found(collect_examples(alloc, &grammar, &known, rule, request)?))
 }
 
-/// Returns the rules by name: of several with one name the last.
+/// Returns the rules by their names. If several rules have the same name, the last one is returned.
 fn rules_by_name<'a>(
     alloc: Global,
     rules: &'a [OptimizedRule],
@@ -83,8 +86,8 @@ fn rules_by_name<'a>(
     Ok(by_name)
 }
 
-/// Makes texts until the wanted number of them is matched by the rule to the end, or there were too
-/// many tries.
+/// Makes texts until the rule matches the wanted number of them to their end, or until there were
+/// too many tries.
 fn collect_examples(
     alloc: Global,
     grammar: &CompiledGrammar<'_>,

@@ -1,17 +1,19 @@
-//! How deep the calls of rules must be for a text that a rule may match.
+//! The height of a rule: the least number of calls that are inside one another in a match of the
+//! rule.
 
 use base_ast::optimized::{OptimizedExpr, OptimizedRule};
 use std::alloc::{AllocError, Global};
 use std::collections::HashMap;
 
-/// The height of what matches no text, as far as is known.
+/// The height of a rule or an expression of which no finite height was found.
 pub const ENDLESS: u32 = u32::MAX;
 /// The greatest number of nodes of an expression that are visited.
 const MOST_NODES: u32 = 100_000;
 /// The greatest height that is looked for.
 const MOST_ROUNDS: u32 = 200;
 
-/// The least number of calls inside one another, by the names of rules.
+/// Heights by the names of rules. The height of a rule is the least number of calls that are inside
+/// one another in a match of the rule.
 pub type Heights<'a> = HashMap<&'a str, u32>;
 
 /// What is left of the computation of a height.
@@ -24,8 +26,9 @@ enum HeightTask<'a> {
     Either,
 }
 
-/// Returns the height of an expression: that of the calls that it cannot do without. The only error is an
-/// allocation failure.
+/// Returns the height of `expr`, by the heights `heights` of rules: the height of the calls without
+/// which `expr` cannot match. The result is `ENDLESS` if the height is not known. The only error is
+/// an allocation failure.
 pub fn height_of(
     alloc: Global,
     expr: &OptimizedExpr,
@@ -107,8 +110,8 @@ fn height_of_name(name: &str, heights: &Heights<'_>) -> u32 {
     }
 }
 
-/// Returns the heights of rules. Rules that match no text, as far as is known, have none. The only error is
-/// an allocation failure.
+/// Returns the heights of `rules` by their names. If no height is found for a rule, its name is
+/// left out. The only error is an allocation failure.
 pub fn heights_of<'a>(
     alloc: Global,
     rules: &'a [OptimizedRule],
@@ -140,7 +143,7 @@ fn rules_of_height<'a>(
     Ok(found)
 }
 
-/// Gives names a height.
+/// Sets the height of each of these names.
 fn add_heights<'a>(
     names: &[&'a str],
     height: u32,

@@ -13,13 +13,14 @@ use std::collections::HashMap;
 const MOST_STEPS: u32 = 100_000;
 /// The greatest number of bytes of a text.
 const MOST_BYTES: usize = 100_000;
-/// The greatest number of alternatives of a choice that are counted.
+/// The greatest number of alternatives of a choice among which one is chosen.
 const MOST_ALTERNATIVES: u32 = 1_000;
 
-/// What is left to be made.
+/// A task that is left to do while a text is made.
 #[derive(Drop)]
 enum Work<'a> {
-    /// A text of an expression. If `is_spaced` is true, blanks may stand between its parts.
+    /// Makes a text that the expression matches. If `is_spaced` is true, blanks may stand between
+    /// its parts.
     Expr {
         expr: &'a OptimizedExpr,
         is_spaced: bool,
@@ -42,7 +43,8 @@ pub struct Rules<'a> {
 pub struct Maker<'a, 'r> {
     rules: &'r Rules<'a>,
     chance: Chance,
-    /// The number of choices that are left to chance. The others take what ends soonest.
+    /// The number of further choices that are left to chance. Later choices take the alternative
+    /// with the least height.
     choices: u32,
     works: Vec<Work<'a>>,
     text: String,
@@ -62,7 +64,8 @@ impl<'a, 'r> Maker<'a, 'r> {
         }
     }
 
-    /// Makes a text for a rule, or `None` if it grows too long. The only error is an allocation failure.
+    /// Returns a text that the rule may match, or `None` if the text would be too long. The only
+    /// error is an allocation failure.
     pub fn make(
         mut self,
         alloc: Global,

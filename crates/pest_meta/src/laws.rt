@@ -1,4 +1,4 @@
-//! Laws over the definitions alone, and of printing and reading.
+//! Laws about the definitions alone, and about printing and reading.
 ghost use Rattle.std.specs.Prelude.{◌≡◌, codes, false, true};
 ghost use Rattle.base_language.specs.Language.CharacterBounds.{HasCharacterBounds};
 ghost use Rattle.base_language.specs.Language.Expression.{Grammar};
@@ -17,14 +17,14 @@ ghost use Rattle.pest_meta.specs.ReadsBack.{GrammarsReadBack, GrammarTextsExist,
 ghost use Rattle.pest_meta.specs.ReadsBack.{PredicateBeforeQuestionMark, ReadsAsOne};
 ghost use Rattle.pest_meta.specs.ReadsBack.{ReadsBack, TagsAreTagIds, TextsExist, is_name, is_tag};
 
-/// Proves that a text spells one list of rules at most.
+/// Proves that a text spells at most one list of rules.
 pub fn spells_one_grammar()
     ensures { SpellsOneGrammar }
 {}
 
-/// Proves that a text has one list of trees at most. If it has one, it is not refused as no grammar; and if
-/// these have a flaw, they give no rules. So if there is an answer for a text, there is no reason to
-/// refuse it.
+/// Proves that a text has at most one list of trees. If a text has trees, there is no syntax error
+/// for it. If the trees have a flaw, they are read as no rules. So if there is an answer for a
+/// text, there is no reason to refuse the text.
 pub fn one_kind_of_answer()
     ensures trees { HasOneListOfTrees }
     ensures syntax { HasTreesOrFails }
@@ -32,15 +32,16 @@ pub fn one_kind_of_answer()
     ensures exclusive { IsNotBoth }
 {}
 
-/// Proves that a text is refused with one list of errors at most: two lists are as long, and error by error
-/// they have one message and one span. Errors of names come first, without any flaw or finding.
+/// Proves that a text is refused with at most one list of errors. Two such lists have the same
+/// length, and their errors have the same messages and spans. If names are wrong, the list has only
+/// errors of names, and no flaw or finding.
 pub fn one_refusal()
     ensures names { NamesComeFirst }
     ensures errors { HasOneRefusal }
 {}
 
-/// Proves that the condition on a pass determines its result for a body. So do the conditions on the
-/// wrappers, put where the restorer puts them, and on all passes together.
+/// Proves that the condition on a pass determines its result for a body. The same is true for the
+/// condition on the wrappers, and for the condition on all passes together.
 pub fn one_result()
     ensures rotate { HasOneResult (λ y. IsDone Rotates) }
     ensures skip { (g : Grammar) → HasOneResult (λ y. IsDone (SkipsUntil g y)) }
@@ -58,23 +59,25 @@ pub fn accepted_rules_have_an_answer()
     ensures answered { AcceptedHaveAnswers }
 {}
 
-/// Proves that a text has one answer at most: two answers have the same builtins, as written, and the same
-/// rules.
+/// Proves that a text has at most one answer: two answers have the same names of builtins and the
+/// same rules.
 pub fn one_answer()
     ensures builtins { HasOneListOfBuiltins }
     ensures rules { HasOneListOfRules }
 {}
 
-/// Proves that steps, the listing of every body and the wrappers bring in no way from `WHITESPACE` or
-/// `COMMENT` to `POP` or `POP_ALL`.
+/// Proves that the optimizer keeps one premise: no call leads from `WHITESPACE` or `COMMENT` to
+/// `POP` or `POP_ALL`. If a grammar meets it, the grammar after a rewriting step, after the pass
+/// `list` or after the addition of wrappers meets it, too.
 pub fn wrappers_still_suffice()
     ensures steps { (g h : Grammar) → Chain g h → WrappersSuffice g → WrappersSuffice h }
     ensures listing { (g h : Grammar) → EachListed g h → WrappersSuffice g → WrappersSuffice h }
     ensures wrappers { (g h : Grammar) → EachRestored g h → WrappersSuffice g → WrappersSuffice h }
 {}
 
-/// Proves that the rules of an answer call nothing but rules and builtins, and that both bounds of each
-/// range in them are one character. So it is with those of `optimize_with_spans`.
+/// Proves that the rules of an answer call only rules and builtins, and that both bounds of each
+/// range in them are one character. This is also true for the rules that `optimize_with_spans`
+/// returns.
 pub fn answers_can_be_run()
     ensures known_names { OfAnswers HasKnownNames }
     ensures character_bounds { OfAnswers HasCharacterBounds }
@@ -83,52 +86,54 @@ pub fn answers_can_be_run()
 /// An expression that is printed as a rule's body is read as the same expression, once sequences and
 /// choices are nested to the right in both.
 ///
-/// The expression is one that the text of a grammar can say: its names are identifiers, its tags those
-/// that the rule `tag_id` takes after `#`, its strings (those of literal pushes too) texts, the bounds of
-/// its ranges single characters, its numbers within their types, no count is at most 0, and it has no
-/// forward search and no wrapper.
+/// The text of a grammar can say the expression. This means: names are identifiers. Tags are texts
+/// that the rule `tag_id` matches after `#`. Strings are texts, also those of `PUSH_LITERAL`. The
+/// bounds of ranges are single characters. Numbers fit their types, and no greatest count is 0.
+/// There is no forward search and no wrapper.
 pub fn reads_back()
     ensures { ReadsBack }
 {}
 
-/// A grammar whose names and bodies can be written is printed a rule a line, with the signs of the
-/// types, and read as the same rules, names distinct or not, once sequences and choices are nested
-/// to the right in both.
+/// Take a grammar whose names and bodies the text of a grammar can say. The grammar is printed with
+/// one line for each rule and with the signs of the rule types. The printed text is read as the
+/// same rules, after sequences and choices are nested to the right in both. The names need not be
+/// distinct.
 pub fn grammars_read_back()
     ensures { GrammarsReadBack }
 {}
 
-/// There are such texts, for rules and for grammars: all characters of printed expressions are scalar
-/// values.
+/// The texts of `reads_back` and `grammars_read_back` exist: all characters of printed expressions
+/// are Unicode scalar values.
 pub fn texts_exist()
     ensures rule { TextsExist }
     ensures grammar { GrammarTextsExist }
 {}
 
-/// The names of which `reads_back` speaks are those that the rule `identifier` takes as a whole.
+/// The names in `reads_back` are the texts that the rule `identifier` of the meta-grammar matches
+/// as a whole.
 pub fn names_are_identifiers()
     ensures { NamesAreIdentifiers }
 {}
 
-/// Tags are the texts that the rule `tag_id` takes after `#`, to the end of the text. Unlike a name, a
-/// tag may begin with `PUSH`.
+/// The tags in `reads_back` are the texts that the rule `tag_id` of the meta-grammar matches as a
+/// whole after `#`. Unlike a name, a tag may begin with `PUSH`.
 pub fn tags_are_tag_ids()
     ensures takes { TagsAreTagIds }
     ensures may_begin_with_push { (is_tag (codes "PUSHED") ≡ true) × (is_name (codes "PUSHED") ≡ false) }
 {}
 
-/// A text is read as one grammar at most, up to the nesting of sequences and choices.
+/// A text is read as at most one grammar, up to the nesting of sequences and choices.
 pub fn reads_as_one()
     ensures { ReadsAsOne }
 {}
 
-/// A printing that leaves a predicate under `?` without parentheses does not read back: `!e?` is
+/// If a predicate before `?` were printed without parentheses, it would not read back: `!e?` is
 /// read as the predicate of an option.
 pub fn predicate_before_question_mark()
     ensures { PredicateBeforeQuestionMark }
 {}
 
-/// Some expressions are printed as these rows show.
+/// Some expressions are printed as the rows of `PrintedRows` show.
 pub fn printed_rows()
     ensures { PrintedRows }
 {}

@@ -33,22 +33,30 @@ pub use spanned::{optimize_with_spans, parse_with_spans};
 use std::alloc::Global;
 pub use written::parse_as_written;
 
-/// Parses a grammar; returns the builtins that it uses, and its optimized rules.
+/// Parses the grammar `grammar`. Returns the builtins that it uses, and its optimized rules.
 ///
-/// The builtins are the names that the grammar calls and doesn't define, without duplicates, in the order
-/// of their first calls, as they are written there; all are pest's own, or names of Unicode properties. The
-/// rules are those that the text spells, in order, with their names and types. Their bodies are rewritten,
-/// by steps that keep what they do from every start, then listed, which may change what some of them match,
-/// and then given wrappers. They call nothing but rules and builtins, and both bounds of each range are one
-/// character. If the text's grammar is plain, every rule has exactly one outcome from every start. If the
-/// text's `WHITESPACE` and `COMMENT` reach no `POP` and no `POP_ALL`, it does not matter for the answered
-/// rules what a failed `POP` or `POP_ALL` leaves of the stack. The stack pass reports nothing for an
-/// accepted text.
+/// The builtins are the names that the grammar calls and does not define. All are builtins of pest
+/// or names of Unicode properties. No name is there twice, and the names are in the order of their
+/// first calls. The rules are those that the text spells, in order, with their names and types.
+/// Three changes are made to their bodies. Rewriting steps keep the outcomes from every start. The
+/// pass `list` may change what some rules match. Then wrappers are added.
 ///
-/// Errors: an allocation failure; one syntax error if the text is no grammar; the errors of
-/// `validator::validate_pairs` if its names are not in order; and the errors of `parser::consume_rules`, with
-/// the reports of the stack pass, if its rules are not. The first of these applies. Positions in errors
-/// count bytes, lines and columns from 1. An answer is returned only if none of them applies.
+/// The returned rules call only rules and builtins, and both bounds of each range are one
+/// character. If the text's grammar is plain, every rule has exactly one outcome from every start.
+/// A failed `POP` or `POP_ALL` may give its entries back or not. The outcomes of the returned rules
+/// do not depend on this, if `WHITESPACE` and `COMMENT` of the text reach no `POP` and no
+/// `POP_ALL`. The stack pass reports nothing for an accepted text.
+///
+/// # Errors
+/// The first one that applies, in this order. Positions in errors are in bytes, from 0. Lines and
+/// columns count from 1, and columns are in characters.
+/// - `Fault::Grammar` with one syntax error, if the text is no grammar.
+/// - `Fault::Grammar` with the errors of `validator::validate_pairs`, if the names are not in
+///   order.
+/// - `Fault::Grammar` with the errors of `parser::consume_rules`, if the rules are wrong. The
+///   reports of the stack pass are among them.
+///
+/// `Fault::Memory` is returned if an allocation fails, or if `grammar` has 2^32 bytes or more.
 pub fn parse_and_optimize<'i>(
     alloc: Global,
     grammar: &'i str,

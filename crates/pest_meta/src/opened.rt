@@ -27,24 +27,24 @@ use std::alloc::{AllocError, Global};
 pub struct OpenGrammar<'i> {
     /// All trees of the text.
     pub forest: Forest<'i>,
-    /// The builtins that it uses, as `validator::validate_pairs` returns them.
+    /// The builtins that the grammar uses, as `validator::validate_pairs` returns them.
     pub builtins: Vec<&'i str>,
     /// Its rules, as `parser::consume_rules_with_spans` returns them.
     pub rules: Deep<Vec<ParserRule<'i>>>,
 }
 
-/// Why `open` refuses a text. `parse_and_optimize` makes its errors of these.
+/// Why `open` refuses a text. `parse_and_optimize` makes its errors from these reasons.
 #[derive(Drop)]
 pub enum OpenError<'i> {
-    /// Allocation failure.
+    /// An allocation failed, or the text has 2^32 bytes or more.
     Memory(AllocError),
-    /// The text is no grammar: the syntax error.
+    /// The text is no grammar. This is the syntax error.
     Syntax(Error<Rule>),
-    /// Some names are wrong: all findings about names, in the order of the errors.
+    /// Some names are wrong. These are all findings about names, in the order of the errors.
     Names(Vec<NameFinding<'i>>),
-    /// The text cannot be read as rules: its first flaw.
+    /// The text cannot be read as rules. This is the first flaw in text order.
     Flaw(Flaw<'i>),
-    /// The rules are wrong: all findings in them, in the order of the errors.
+    /// The rules are wrong. These are all findings in them, in the order of the errors.
     Rules(Vec<RuleFinding<'i>>),
 }
 

@@ -46,7 +46,11 @@ pub fn consume_rules(alloc: Global, pairs: Pairs<'_, Rule>) -> Result<Vec<ast::R
     consume_forest(alloc, &forest)
 }
 
-/// Returns the rules or the errors of `consume_rules` for the trees of a grammar's text.
+/// Returns the rules that the trees in `forest` spell, in order, without spans. Condition: `forest`
+/// has all trees of a parse of a text by `grammar_rules`.
+///
+/// # Errors
+/// Those of `consume_rules`.
 pub fn consume_forest(alloc: Global, forest: &Forest<'_>) -> Result<Vec<ast::Rule>, Fault>
     requires { IsOfAGrammar forest.now }
     ensures rules { IfOk result

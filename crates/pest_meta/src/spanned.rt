@@ -16,9 +16,12 @@ use front_optimizer::{OptimizedRule, optimize};
 use front_spanned::erase_spans;
 use std::alloc::Global;
 
-/// Parses a grammar; returns the builtins that it uses, and its rules with the spans of their nodes, as
-/// `parser::consume_rules_with_spans` reads them. `optimize_with_spans` makes these the answer of
-/// `parse_and_optimize`. Errors are those of `parse_and_optimize`, for the same texts.
+/// Parses the grammar `grammar`. Returns the builtins that it uses, and its rules with the spans of
+/// their nodes, as `parser::consume_rules_with_spans` reads them. `optimize_with_spans` makes the
+/// rules of `parse_and_optimize` from these rules.
+///
+/// # Errors
+/// Those of `parse_and_optimize`, for the same texts.
 pub fn parse_with_spans<'i>(
     alloc: Global,
     grammar: &'i str,

@@ -23,25 +23,29 @@ use front_validator::validator::{findings_in, validate_by, validate_by_in};
 pub use front_validator::validator::{is_non_failing, is_non_progressing};
 use std::alloc::{AllocError, Global};
 
-/// Returns the errors in rules, ordered by the start of their spans and then by the end, in bytes (at one
-/// span repetitions, then those that never end because of the stack, then choices, then skipped rules, then
-/// left recursion, then tags):
-/// - `expression inside repetition cannot fail and will repeat infinitely` or, if that is not so,
-///   `expression inside repetition is non-progressing and will repeat infinitely`, at a repetition `e*`,
-///   `e+` or `e{n,}` whose body cannot fail, or may take nothing;
-/// - the second of these messages at one that certainly never ends because of the stack
-///   (`validate_stack_repetition`);
-/// - `expression cannot fail; following choices cannot be reached`, at an alternative that cannot fail and
-///   has others after it;
-/// - `WHITESPACE cannot fail and will repeat infinitely` or, if that is not so,
-///   `WHITESPACE is non-progressing and will repeat infinitely`, at the body of the rule `WHITESPACE`; and so
-///   for `COMMENT`;
-/// - `rule a is left-recursive (a -> b -> a); pest::pratt_parser might be useful in this case`, at the call
-///   that closes the cycle, at most once for a name;
-/// - `tags on silent rules will not appear in the output`, at a tag on a Silent rule, and
-///   `tags on built-in rules will not appear in the output`, at one on a builtin that is no rule's name.
+/// Returns the errors in `rules`, sorted by the start of their spans, and then by the end, in
+/// bytes. If several errors have the same span, they are in the order of this list:
+/// - The body of a repetition `e*`, `e+` or `e{n,}` cannot fail, or may consume nothing. If it
+///   cannot fail, the message is
+///   `expression inside repetition cannot fail and will repeat infinitely`. Otherwise it is
+///   `expression inside repetition is non-progressing and will repeat infinitely`.
+/// - A repetition never ends because of the stack (`validate_stack_repetition`). The message is the
+///   second one above.
+/// - An alternative cannot fail, and is not the last one of its choice. The message is
+///   `expression cannot fail; following choices cannot be reached`.
+/// - The body of the rule `WHITESPACE` cannot fail, or may consume nothing. If it cannot fail, the
+///   message is `WHITESPACE cannot fail and will repeat infinitely`. Otherwise it is
+///   `WHITESPACE is non-progressing and will repeat infinitely`. The rule `COMMENT` has the same
+///   messages, with its own name.
+/// - A rule is left-recursive. The error is at the call that closes the cycle, at most once for a
+///   name. The message is such as
+///   `rule a is left-recursive (a -> b -> a); pest::pratt_parser might be useful in this case`.
+/// - A tag is on a call of a Silent rule. The message is
+///   `tags on silent rules will not appear in the output`. If the tag is on a builtin that is no
+///   rule's name, it is `tags on built-in rules will not appear in the output`.
 ///
-/// The only fault is an allocation failure.
+/// # Errors
+/// `Fault::Memory` if an allocation fails.
 pub fn validate_ast<'i>(
     alloc: Global,
     rules: &Vec<ParserRule<'i>>,
@@ -57,8 +61,11 @@ pub fn validate_ast<'i>(
     validate_by(alloc, &groundwork, endless.as_slice())
 }
 
-/// Returns the errors of `validate_ast` for rules whose spans are all of one text, which is walked over
-/// once for the lines and columns of all errors. The only fault is an allocation failure.
+/// Returns the errors of `validate_ast` for `rules`. Condition: the spans of `rules` are all spans
+/// of `text`. The lines and columns of all errors are found in one walk over `text`.
+///
+/// # Errors
+/// `Fault::Memory` if an allocation fails.
 pub fn validate_ast_in<'i>(
     alloc: Global,
     text: &str,
@@ -76,8 +83,10 @@ pub fn validate_ast_in<'i>(
     validate_by_in(alloc, text, &groundwork, endless.as_slice())
 }
 
-/// Collects the findings in rules that the errors of `validate_ast` tell of, in the order of these. The only
-/// error is an allocation failure.
+/// Returns the findings in `rules`, in the order of the errors that `validate_ast` makes from them.
+///
+/// # Errors
+/// `AllocError` if an allocation fails.
 pub fn find_in_rules<'i>(
     alloc: Global,
     rules: &Vec<ParserRule<'i>>,

@@ -1,4 +1,5 @@
-//! Whether the trees of a match are the expected ones. A tree of `EOI` may be left out of these.
+//! Comparison of the trees of a match with the expected trees. The expected trees may leave out a
+//! tree of `EOI`.
 ghost use Rattle.std.specs.Prelude.{◌≡◌, ℕ, List, IfOk, IfSome, codes, true};
 ghost use Rattle.std.specs.Str.{chars};
 ghost use Rattle.base_language.specs.Language.State.{Trees};

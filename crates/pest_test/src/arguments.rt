@@ -43,7 +43,7 @@ pub enum Task {
 pub struct TestRequest<'a> {
     pub grammar: Option<&'a str>,
     pub rule: Option<&'a str>,
-    /// Cases are skipped if their names do not have these words.
+    /// The text of `--filter`. A case is skipped if its name does not have this text.
     pub filter: Option<&'a str>,
     pub form: RuleForm,
     pub format: ReportFormat,
@@ -68,7 +68,7 @@ in the one above, or in src beside it
 status: 0 all cases pass, 1 a case fails or a grammar is refused, 2 out of memory,
 3 a file or the command line can't be read, 4 a file or standard output can't be written";
 
-/// Returns the command line that the program accepts.
+/// Returns the options and arguments that the program accepts.
 pub fn command<'a>(alloc: Global) -> Result<Command<'a>, AllocError>
     ensures name { IfOk result (λ command. (app_of command).top.name ≡ codes "pest-test") }
     ensures arguments { IfOk result (λ command. arguments_of command ≡ option (codes "grammar")

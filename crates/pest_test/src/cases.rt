@@ -27,8 +27,9 @@ pub struct Case<'f> {
     pub line: usize,
     /// The rule that matches the text, if the case names one.
     pub rule: Option<&'f str>,
-    /// The text to match, and the number of its first line in the file, from 1.
+    /// The text that the rule is run on.
     pub text: &'f str,
+    /// The number of the first line of the text in the file, from 1.
     pub text_line: usize,
     pub expected: Expected<'f>,
     /// The part of the file that has the expected trees.
@@ -37,11 +38,12 @@ pub struct Case<'f> {
     pub is_prefix: bool,
     /// Whether the case is not run.
     pub is_skipped: bool,
-    /// Whether cases without this mark are not run.
+    /// Whether the case has the mark `:only`. If a case of a file has it, the cases without it are
+    /// not run.
     pub is_only: bool,
 }
 
-/// What a file says before its first case.
+/// The head of a file of cases: the lines before its first case.
 #[derive(Clone, Copy)]
 pub struct Head<'f> {
     pub grammar: Option<&'f str>,
@@ -60,7 +62,7 @@ pub struct CaseFile<'f> {
 pub enum FileError {
     /// An allocation failed.
     Memory,
-    /// What is wrong, and in which line.
+    /// What is wrong, and the number of the line, from 1.
     Wrong { line: usize, why: &'static str },
 }
 
@@ -128,7 +130,8 @@ fn add_case<'f>(cases: &mut Vec<Case<'f>>, case: Case<'f>) -> Result<(), AllocEr
     Ok(())
 }
 
-/// Returns whether a text begins as a file of cases: with a bar, or with a line of a head.
+/// Returns whether `file` begins as a file of cases does: with a line of `=`, or with a line of a
+/// head.
 pub fn begins_as_cases(file: &str) -> bool {
     let file = file.trim_start();
     file.starts_with("===")
@@ -166,8 +169,8 @@ fn without_end(line: &str) -> &str {
     line.strip_suffix('\r').unwrap_or(line)
 }
 
-/// Returns what follows three or more signs at the start of a line. Blanks at its end do not count. If there
-/// are other blanks, the line is no bar.
+/// Returns the part of `line` after three or more `sign` at its start, without the blanks at its
+/// end. Returns `None` if there are fewer than three `sign`, or if the part has a blank inside.
 fn suffix_after(line: &str, sign: char) -> Option<&str> {
     let rest = line.trim_start_matches(sign);
     if line.len().saturating_sub(rest.len()) < 3 {
@@ -235,8 +238,8 @@ impl<'l, 'f> Lines<'l, 'f> {
         None
     }
 
-    /// Returns the part of the text between the lines of these numbers: without an empty line at its start
-    /// and one at its end, and without its last line end.
+    /// Returns the part of the file between two lines that are given by their numbers. An empty
+    /// line at the start, an empty line at the end, and the last line end are left out.
     fn text_part(&self, before: usize, divider: usize) -> FilePart {
         let mut from = before.saturating_add(1);
         let mut to = divider;

@@ -44,7 +44,9 @@ struct Reader<'f> {
 
 const NOT_CLOSED: &str = "a string has no closing quote";
 
-/// Reads trees: `(rule (rule "text"))`. Blanks are free. A comment begins with `;`, and ends with its line.
+/// Reads the trees in `text`, such as `(rule (rule "text"))`. Returns them as a list of events.
+/// White space between the parts has no meaning. A comment begins with `;`, and ends at the end of
+/// its line.
 pub fn read_trees<'f>(alloc: Global, text: &'f str) -> Result<Vec<Event<'f>>, ReadError> {
     let mut reader = Reader {
         rest: text,

@@ -105,7 +105,8 @@ fn list_folder(
     Ok(())
 }
 
-/// Returns the path of a file that another one names.
+/// Returns the path `path` as the file `file` means it: a relative path starts from the folder of
+/// `file`.
 pub fn path_beside(rt: &HostRuntime, file: &str, path: &str) -> Result<String, AllocError> {
     let alloc = rt.alloc();
     match file.rsplit_once('/') {
@@ -114,8 +115,9 @@ pub fn path_beside(rt: &HostRuntime, file: &str, path: &str) -> Result<String, A
     }
 }
 
-/// Finds the only grammar in the folder of a file, or else in the one above, or in `src` beside it. Returns
-/// `None` if there is no grammar, or more than one.
+/// Returns the path of the grammar for the file of cases `file`: the only `*.pest` in the folder of
+/// `file`. If this folder has none, the folder above is searched, and then the folder `src` in the
+/// folder above. Returns `None` if no grammar is found, or if a folder has more than one.
 pub fn find_grammar(rt: &HostRuntime, file: &str) -> Result<Option<String>, AllocError> {
     for place in [".", "..", "../src"] {
         let folder = path_beside(rt, file, place)?;

@@ -24,7 +24,12 @@ pub enum GrammarError {
     Unfit,
 }
 
-/// Compiles the rules of a grammar, in the form in which they are to be run.
+/// Compiles the rules of the text `grammar` in the form `form`. Returns the compiled grammar.
+///
+/// # Errors
+/// - `GrammarError::Refused` if the grammar is refused.
+/// - `GrammarError::Unfit` if the rules cannot be run.
+/// - `GrammarError::Memory` if an allocation fails.
 pub fn compile_grammar(
     alloc: Global,
     grammar: &str,

@@ -1,5 +1,5 @@
-//! Trees in lines, a line each, and their difference: where the lines differ, the search looks for the
-//! nearest pair of lines that agree again.
+//! Trees as lines, one line for each tree, and the difference between two lists of lines. If lines
+//! differ, the search looks for the nearest pair of lines that agree again.
 
 use crate::agreement::{is_end, part_of};
 use crate::expected::Event;
@@ -10,7 +10,7 @@ use std::alloc::{AllocError, Global};
 /// The line of a tree.
 #[derive(Clone, Copy)]
 pub struct TreeLine<'r, 't> {
-    /// How many trees contain it.
+    /// The number of trees around it: 0 for an outermost tree.
     depth: usize,
     rule: &'r str,
     /// The text that the line shows, if it shows one.
@@ -121,7 +121,8 @@ fn write_blanks(out: &mut String, depth: usize) -> Result<(), AllocError> {
     Ok(())
 }
 
-/// Returns trees as S-expressions, a line each, with the texts of leaves if `has_texts`.
+/// Returns trees as S-expressions, one line for each tree. If `has_texts` is true, the lines of
+/// leaves have their texts.
 pub fn print_trees(
     alloc: Global,
     lines: &[TreeLine<'_, '_>],
@@ -281,8 +282,9 @@ fn show_around(shown: &mut [bool], i: usize) {
     }
 }
 
-/// Returns the lines of the difference of trees: `-` before what is only expected, and `+` before what is
-/// only found. The texts of leaves are shown if `has_texts`.
+/// Returns the lines of the difference between expected and found trees. A line that is only
+/// expected begins with `-`, and a line that is only found begins with `+`. If `has_texts` is true,
+/// the texts of leaves are shown.
 pub fn print_difference<'x>(
     alloc: Global,
     expected: &[TreeLine<'x, 'x>],

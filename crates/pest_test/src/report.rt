@@ -46,7 +46,7 @@ impl Tally {
         }
     }
 
-    /// Returns how many cases there are.
+    /// Returns the number of all cases.
     pub fn count(self) -> usize {
         self.passed
             .saturating_add(self.failed)
@@ -54,7 +54,8 @@ impl Tally {
             .saturating_add(self.updated)
     }
 
-    /// Adds the case of a verdict. Trees that differ are updated, if `is_update`.
+    /// Counts the case that has the verdict `verdict`. If `is_update` is true, a case whose trees
+    /// differ counts as updated.
     pub fn add(&mut self, verdict: &Verdict, is_update: bool) {
         match verdict {
             Verdict::Passed => self.passed = self.passed.saturating_add(1),

@@ -19,8 +19,9 @@ use program_support::status::Status;
 use std::alloc::AllocError;
 use std::io::Write;
 
-/// Tests the files of these names, and returns the status with the highest number. Stops if standard output
-/// refuses a write. The only error is an allocation failure.
+/// Does the work that `request` asks for on each file of `sources`. Returns the highest status of
+/// all files. If standard output refuses a write, the remaining files are left out. The only error
+/// is an allocation failure.
 pub fn test_files(
     rt: &HostRuntime,
     sources: &[CaseSource],

@@ -65,8 +65,8 @@ fn write_trees(
     Ok(text)
 }
 
-/// Returns a text in which parts are replaced, or `None` if the parts are not in order, or do not begin and
-/// end between characters.
+/// Returns the text `file` in which the text of each edit takes the place of the part of the edit.
+/// Returns `None` if the parts are not in order, or if a part begins or ends inside a character.
 pub fn apply_edits(alloc: Global, file: &str, edits: &[Edit]) -> Result<Option<String>, AllocError>
     ensures { IfOk result (λ found. IfSome found (λ text.
         string_bytes text ≡ edited_from file.now 0 edits.now)) }

@@ -27,11 +27,11 @@ pub enum Verdict {
 /// Why a case fails.
 #[derive(Drop)]
 pub enum Failure {
-    /// The rule matches as it should, but the trees are not the expected ones.
+    /// The rule matches, but the trees of this match are not the expected ones.
     Differs(ParseTree),
     /// The rule matches, but the case says that the text does not match.
     Matches,
-    /// The rule matches only a prefix of the text.
+    /// The rule matches only a prefix of the text. This is the match.
     EndsEarly(ParseTree),
     /// The rule fails. This is the furthest position of a failure, in bytes.
     NoMatch(usize),
@@ -63,7 +63,7 @@ pub fn rule_of<'a>(case: &Case<'a>, default: &'a str) -> &'a str
     }
 }
 
-/// Returns the greatest number of steps of a match on a text of `length` bytes: 2^28, and 4,096 for each
+/// Returns the limit of a match on a text of `length` bytes: 2^28 steps, and 4,096 more for each
 /// byte.
 pub fn most_steps(length: usize) -> u64
     ensures { result ≡ most_steps length }
@@ -71,7 +71,8 @@ pub fn most_steps(length: usize) -> u64
     (length as u64).saturating_add(65_536).saturating_mul(4_096)
 }
 
-/// Returns the verdicts on cases, in order. The only error is an allocation failure.
+/// Returns the verdicts on `cases`, in order. A case that names no rule is matched by the rule
+/// named `default`. The only error is an allocation failure.
 pub fn judge_all(
     alloc: Global,
     rules: &CompiledGrammar<'_>,
@@ -88,7 +89,8 @@ pub fn judge_all(
     Ok(verdicts)
 }
 
-/// Returns the verdict on a case. The only error is an allocation failure.
+/// Returns the verdict on `case`. If the case names no rule, it is matched by the rule named
+/// `default`. The only error is an allocation failure.
 pub fn judge(
     alloc: Global,
     rules: &CompiledGrammar<'_>,
@@ -109,7 +111,7 @@ pub fn judge(
     }
 }
 
-/// Returns the verdict on a case of which the rule gives no match.
+/// Returns the verdict on `case`, whose rule gives no match because of `stop`.
 fn judge_stop(case: &Case<'_>, stop: BlockStop) -> Result<Verdict, AllocError>
     requires { case.now.is_skipped ≡ false }
     ensures { (g : Grammar) (rule : List ℕ)
@@ -124,7 +126,8 @@ fn judge_stop(case: &Case<'_>, stop: BlockStop) -> Result<Verdict, AllocError>
     }
 }
 
-/// Returns the verdict on a case of which the run was stopped. A want of memory stops all cases.
+/// Returns the verdict on a case whose run was stopped because of `stop`. The only error is an
+/// allocation failure: if `stop` is `Stop::Memory`, no further case is run.
 fn describe_stop(stop: Stop) -> Result<Verdict, AllocError>
     ensures { IfOk result (λ verdict. verdict ≡ Verdict.Failed (Failure.Stopped stop)) }
 {
@@ -179,7 +182,8 @@ fn judge_match(
     }
 }
 
-/// Returns whether a verdict counts as a failure. Where trees are updated, cases whose trees differ do not.
+/// Returns whether `verdict` counts as a failure. If `is_update` is true, a case whose trees differ
+/// does not count as one.
 pub fn is_failure(verdict: &Verdict, is_update: bool) -> bool
     ensures { result ≡ is_failure is_update verdict.now }
 {

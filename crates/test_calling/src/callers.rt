@@ -17,7 +17,7 @@ use pest_meta::{Report, parse_and_optimize, unwrap_or_report};
 use std::alloc::{AllocError, Global};
 use std::io;
 
-/// Returns the builtins that a grammar uses and its optimized rules, or the report of its faults.
+/// Returns the builtins and the optimized rules of `grammar`, or the printed report of its errors.
 pub fn optimized_rules<'i>(
     alloc: Global,
     grammar: &'i str,
@@ -52,7 +52,7 @@ fn places(
     Ok(places)
 }
 
-/// Prints the trees that a text spells for a rule, each below the one that holds it, or why there are none.
+/// Prints the trees of the match of the rule named `rule` on `text`, or why there is no match.
 pub fn print_trees(
     rt: &HostRuntime,
     rules: &[OptimizedRule],
@@ -81,7 +81,7 @@ pub fn print_trees(
     }
 }
 
-/// Prints the tags of a match by wrapped rules, each with its part of the text.
+/// Prints each tag of a match on `text`, with the part of the text that it is on.
 pub fn print_tags(
     rt: &HostRuntime,
     wrapped: &CompiledGrammar<'_>,

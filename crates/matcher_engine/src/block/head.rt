@@ -8,23 +8,24 @@ use std::alloc::{AllocError, Global};
 /// The beginning of each block, `pest`.
 const MARK: [u8; 4] = [112, 101, 115, 116];
 
-/// The beginning of a block of this version: `pest`, and 3 as a word. The sum and the sections follow.
+/// The beginning of a block of this version: `pest`, and the number 3 as a word of 4 bytes. The
+/// checksum and the sections follow.
 const HEAD: [u8; 8] = [112, 101, 115, 116, 3, 0, 0, 0];
 
-/// If the sum begins, in bytes.
+/// The position of the checksum in a block, in bytes, from 0.
 const SUM: usize = 8;
 
-/// If the sections begin, in bytes.
+/// The position of the first section in a block, in bytes, from 0.
 const SECTIONS: usize = 16;
 
-/// The reason why bytes are not a block of this version, as it was made.
+/// Why bytes are not an unchanged block of this version.
 #[derive(Clone, Copy, Debug, PartialEq, Eq)]
 pub enum BlockFlaw {
-    /// They do not begin as a block.
+    /// The bytes do not begin as a block does.
     NoBlock,
-    /// They are a block of another version.
+    /// The bytes begin as a block of another version does.
     OtherVersion,
-    /// The sum in the head is not that of the sections.
+    /// The checksum in the head is not that of the sections.
     Changed,
 }
 
@@ -39,7 +40,8 @@ fn sum_of(bytes: &[u8]) -> u64
     sum
 }
 
-/// Returns the bytes from a place on, in bytes; none if the place is past the end.
+/// Returns the bytes of `block` from the position `place` on, in bytes. If `place` is after the
+/// end, there are none.
 fn bytes_from(block: &[u8], place: usize) -> &[u8]
     ensures { result.now ≡ drop place block.entry.now }
 {
@@ -49,14 +51,15 @@ fn bytes_from(block: &[u8], place: usize) -> &[u8]
     }
 }
 
-/// Returns a section of a block.
+/// Returns the section of `block` with the index `number`, from 0. If there is none, it is empty.
 pub(crate) fn part_of(block: &[u8], number: u32) -> &[u8]
     ensures { result.now ≡ part_of block.entry.now number }
 {
     section(bytes_from(block, SECTIONS), number)
 }
 
-/// Returns the block of sections, with its head. The only error is an allocation failure.
+/// Returns the block that consists of a head and of `sections`. The only error is an allocation
+/// failure.
 pub(crate) fn with_head(alloc: Global, sections: &[u8]) -> Result<Vec<u8>, AllocError>
     ensures whole { IfOk result (λ block. IsWhole block.items) }
     ensures sections { IfOk result (λ block. drop 16 block.items ≡ sections.now) }
@@ -68,7 +71,7 @@ pub(crate) fn with_head(alloc: Global, sections: &[u8]) -> Result<Vec<u8>, Alloc
     Ok(block)
 }
 
-/// Returns why bytes are not the beginning of a block of this version, if they are not.
+/// Returns why `block` does not begin as a block of this version, or `None` if it does.
 pub(crate) fn find_flaw(block: &[u8]) -> Option<BlockFlaw>
     ensures some { IfSome result (λ flaw. IsBlock block.now → ⊥) }
     ensures flaw { IfSome result (λ flaw. HasFlaw block.now flaw) }
@@ -84,10 +87,11 @@ pub(crate) fn find_flaw(block: &[u8]) -> Option<BlockFlaw>
     }
 }
 
-/// Verifies the version and the checksum of a compiled grammar. Runs do not verify the checksum.
+/// Verifies the version and the checksum of the compiled grammar `block`. Runs verify only the
+/// version.
 ///
 /// # Errors
-/// The first variant of `BlockFlaw` that applies.
+/// The first variant of `BlockFlaw` that applies, in the order of the variants.
 pub fn check_block(block: &[u8]) -> Result<(), BlockFlaw>
     ensures whole { OnOk result (IsWhole block.now) }
     ensures flaw { IfErr result (λ flaw. HasFlaw block.now flaw) }

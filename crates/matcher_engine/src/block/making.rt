@@ -17,7 +17,7 @@ use matcher_program::form::Program;
 use matcher_program::properties::Properties;
 use std::alloc::{AllocError, Global};
 
-/// Returns the number of a type.
+/// Returns the number of the rule type `ty` in a block.
 fn type_number(ty: RuleType) -> u8
     ensures { result ≡ type_byte ty }
 {
@@ -30,7 +30,7 @@ fn type_number(ty: RuleType) -> u8
     }
 }
 
-/// Returns the numbers of the types of rules.
+/// Returns the numbers of the types of `rules`, in order.
 fn types_of(alloc: Global, rules: &[OptimizedRule]) -> Result<Vec<u8>, AllocError>
     ensures { IfOk result (λ types. types.items ≡ map (λ r. type_byte r.ty) rules.now) }
 {
@@ -53,8 +53,11 @@ fn names_of<'a>(alloc: Global, rules: &'a [OptimizedRule]) -> Result<Vec<&'a [u8
     Ok(names)
 }
 
-/// Returns the block of a program, with the names and types of rules. Errors: an allocation failure, as which
-/// a block of 2^32 bytes counts.
+/// Returns the block of `program`, with the names and types of `rules`.
+///
+/// # Errors
+/// - `NotCompiled::Memory` if an allocation fails, or if the block would have 2^32 bytes or more.
+/// - Those of `code_bytes` and `name_code_bytes`.
 fn block_of(
     alloc: Global,
     program: &Program,
@@ -83,11 +86,12 @@ fn block_of(
     Ok(block)
 }
 
-/// Compiles `rules` to a block.
+/// Compiles `rules` to a block: the bytes of a compiled grammar. `properties` has the character
+/// sets of Unicode properties.
 ///
 /// # Errors
-/// - `Unfit::UnknownName` if a rule calls a name that is neither a rule's nor a builtin's, nor that of a
-///   property that `properties` knows.
+/// - `Unfit::UnknownName` if a rule calls an unknown name. A known name is that of a rule, of a
+///   builtin, or of a property that `properties` has.
 /// - `Unfit::Bound` if a bound of a range is not one character.
 /// - `Unfit::Memory` if an allocation fails, if the check of the code fails, or if the block would have 2^32
 ///   bytes or more.

@@ -1,4 +1,4 @@
-//! Entries of trees with tags, without those of wrappers.
+//! The starts and ends of the trees of a match with their tags, without those of the added trees.
 ghost use Rattle.std.specs.Prelude.{◌≡◌, ℕ, IfOk, OnOk, [], chars};
 ghost use Rattle.base_language.specs.Language.State.{Trees};
 ghost use Rattle.base_language.specs.Pieces.TokenTrees.{NoTokens};
@@ -12,7 +12,8 @@ use crate::tags::names::find_tag;
 use matcher_engine::walk::{TreeWalk, Visit};
 use std::alloc::{AllocError, Global};
 
-/// The start of a tree, or its end with its tag; positions are in bytes.
+/// The start of a tree, with the name of its rule, or the end of a tree, with its tag if it has
+/// one. `pos` is a position in bytes.
 #[derive(Clone, Copy, Debug)]
 pub enum TaggedEntry<'a> {
     Start { rule: &'a str, pos: usize },
@@ -78,9 +79,12 @@ fn add_visit<'a>(
     }
 }
 
-/// Returns the entries of all trees of a match by wrapped rules that are not a wrapper's, in the order of the
-/// text. A wrapper gives its tag to the entry before its end, if that is the end of a tree; a later wrapper's
-/// tag replaces it. The only error is an allocation failure.
+/// Returns the starts and ends of the trees of `walk`, in the order of the text, without the trees
+/// that wrapped rules add. Condition: `walk` is a walk over a match by rules that `wrap_rules`
+/// returned.
+///
+/// An added tree has a tag. If the entry before its end is the end of a tree, this entry gets the
+/// tag. A later tag replaces it. The only error is an allocation failure.
 pub fn tag_entries<'a>(
     alloc: Global,
     mut walk: TreeWalk<'a, '_>,

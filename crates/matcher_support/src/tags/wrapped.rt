@@ -1,5 +1,5 @@
-//! Rules whose tags have become calls of wrappers. A wrapper is a rule that gives one tree more, which ends
-//! at the end of the tagged expression.
+//! Wrapped rules, in which a tag is a call of an added rule, called a *wrapper* here. A wrapper
+//! gives one more tree, which ends at the end of the tagged expression.
 ghost use Rattle.std.specs.Prelude.{◌≡◌, ◌<◌, ◌^◌, [], ⊤, IfOk, chars, length};
 ghost use Rattle.base_language.specs.Language.Expression.{Expression, Grammar};
 ghost use Rattle.base_ast.specs.Optimized.{optimized_expression_of, optimized_rule_of, optimized_rules_of};
@@ -183,8 +183,8 @@ fn wrap_rule(
     Ok((rule, wrappers))
 }
 
-/// Returns the wrappers of all tags in rules, and then the rules, which call them. The only error is an
-/// allocation failure.
+/// Returns the wrapped rules of `rules`: first a wrapper for each tag, and then the rules of
+/// `rules`, in order, which call the wrappers. The only error is an allocation failure.
 pub fn wrap_rules(
     alloc: Global,
     rules: &[OptimizedRule],
