@@ -511,8 +511,8 @@ class Matcher:
 
         A rule that does not end in EOI may match only a part of the text: see Match.end.
 
-        If the rule does not use pest's stack, the match needs no limit: its turns are linear in the bytes of the text
-        and in the trees. If the rule uses the stack, the match may take exponential time, as in pest. Then give `steps`
+        If no rule of the grammar uses pest's stack, the match needs no limit: its turns are linear in the bytes of the
+        text and in the trees. If one uses the stack, the match may take exponential time, as in pest. Then give `steps`
         if the text comes from an untrusted source.
 
         If the match fails, a second run searches for the rules that were expected. Each of both runs takes at most

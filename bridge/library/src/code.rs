@@ -65,9 +65,9 @@ pub fn error_steps(text: &str) -> u64 {
 
 /// Runs the rule with the index `row` from the start of `text`, by runs of at most `steps` steps.
 ///
-/// If `steps` is [`NO_LIMIT`], the run has no limit. If the rule uses no stack, the turns of the run are linear in the
-/// bytes of the text and in the nodes. If it uses the stack, by `PUSH`, `PEEK` and the like, it may take exponential
-/// time.
+/// If `steps` is [`NO_LIMIT`], the run has no limit. If no rule of the grammar uses the stack, the turns of the run are
+/// linear in the bytes of the text and in the nodes. If one uses the stack, by `PUSH`, `PEEK` and the like, the run
+/// may take exponential time.
 ///
 /// # Errors
 /// [`Unmatched`] if the rule fails, if it is stopped, or if the block has no such rule.

@@ -22,7 +22,7 @@
 //! | The original | Here |
 //! |---|---|
 //! | `PEEK` or `POP` on the empty stack panics. | It is an error at the start of the text. |
-//! | A rule may run for any time, unless `pest::set_call_limit` was called. | A rule that uses the stack may. The turns of any other rule are linear in the text and the pairs. |
+//! | A rule may run for any time, unless `pest::set_call_limit` was called. | A rule that uses the stack may. If no rule of the grammar uses the stack, the turns of a match are linear in the text and the pairs. |
 //! | An error names its rules, however long the search for them takes. | If 2^23 steps, and 32 more for each byte, do not find them, the error says so. It is at the furthest position of a failure. |
 //! | The listener is called at each call of a rule. | It is called for each token of a match, in the order of their starts. |
 //! | A builtin can be parsed as a rule. | Any name that is no rule panics, as an undefined rule does in the original. |
