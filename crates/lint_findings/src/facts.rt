@@ -32,8 +32,9 @@ static FACTS: [Facts; 29] = [
         report: Report::Error,
         message: "",
         help: None,
-        page: "The text is not a valid grammar. The position is where reading came furthest; the expected \
-               names are those of pest's own grammar. A help shows how known mistakes are mended.",
+        page: "The text is not a valid grammar. The reported position is the furthest one that the \
+               parser reached. The expected names are those of pest's own grammar. If the mistake is a \
+               known one, a help shows how to correct it.",
     },
     Facts {
         code: Code::EscapeValue,
@@ -42,9 +43,9 @@ static FACTS: [Facts; 29] = [
         report: Report::Error,
         message: "",
         help: Some("D800 to DFFF and what is above 10FFFF are no characters"),
-        page: "An escape names no character.\n\n    \
+        page: "An escape does not name a character.\n\n    \
                a = { \"\\u{D800}\" }\n\n\
-               Surrogates and values above 10FFFF are no characters.",
+               The values D800 to DFFF and those above 10FFFF are not characters.",
     },
     Facts {
         code: Code::NumberRange,
@@ -53,7 +54,7 @@ static FACTS: [Facts; 29] = [
         report: Report::Error,
         message: "",
         help: None,
-        page: "A number does not fit 32 bits.\n\n    \
+        page: "A number does not fit into 32 bits.\n\n    \
                a = { \"x\"{5000000000} }",
     },
     Facts {
@@ -63,8 +64,9 @@ static FACTS: [Facts; 29] = [
         report: Report::Error,
         message: "",
         help: Some("use `\"\"` to match the empty string"),
-        page: "An expression is repeated zero times, which would take nothing.\n\n    \
-               a = { \"x\"{0} }\n\nUse \"\" to match the empty string.",
+        page: "An expression is repeated zero times, and so it would match only the empty string.\n\n    \
+               a = { \"x\"{0} }\n\n\
+               Use \"\" to match the empty string.",
     },
     Facts {
         code: Code::ReservedName,
@@ -73,7 +75,7 @@ static FACTS: [Facts; 29] = [
         report: Report::Error,
         message: "",
         help: Some("use another name: pest has a meaning for this one"),
-        page: "A rule has a name that pest keeps for itself.\n\n    \
+        page: "A rule has a name that pest reserves.\n\n    \
                ANY = { \"x\" }",
     },
     Facts {
@@ -83,8 +85,9 @@ static FACTS: [Facts; 29] = [
         report: Report::Error,
         message: "",
         help: Some("remove one of them, or write both as alternatives: `a = { b | c }`"),
-        page: "Two rules have one name.\n\n    \
-               a = { \"x\" }\n    a = { \"y\" }",
+        page: "Two rules have the same name.\n\n    \
+               a = { \"x\" }\n    \
+               a = { \"y\" }",
     },
     Facts {
         code: Code::UndefinedRule,
@@ -93,9 +96,9 @@ static FACTS: [Facts; 29] = [
         report: Report::Error,
         message: "",
         help: None,
-        page: "This name is neither a rule nor a builtin.\n\n    \
+        page: "A name is neither that of a rule nor that of a builtin.\n\n    \
                a = { asci_digit+ }\n\n\
-               Names of builtins are in capitals, as ASCII_DIGIT.",
+               The names of builtins are in capital letters, such as ASCII_DIGIT.",
     },
     Facts {
         code: Code::MissingProperty,
@@ -104,9 +107,11 @@ static FACTS: [Facts; 29] = [
         report: Report::Error,
         message: "",
         help: None,
-        page: "A Unicode property is called that pest has and this front end has not: a property of emoji, \
-               most scripts, and some others.\n\n    a = { EMOJI }\n\n\
-               In pest the call is right. A rule of the name takes the property's place.",
+        page: "A rule calls a Unicode property that pest has and this front end does not have. These \
+               are the properties of emoji, most scripts, and some others.\n\n    \
+               a = { EMOJI }\n\n\
+               In pest, the call is valid. If you define a rule with this name, it takes the place of \
+               the property.",
     },
     Facts {
         code: Code::LeftRecursion,
@@ -115,9 +120,9 @@ static FACTS: [Facts; 29] = [
         report: Report::Error,
         message: "",
         help: Some("write the operand first and repeat the rest: `a = { b ~ (\"+\" ~ b)* }`"),
-        page: "A rule calls itself before it takes a character, and would never end.\n\n    \
+        page: "A rule calls itself before it consumes a character, and so it would never end.\n\n    \
                sum = { sum ~ \"+\" ~ number | number }\n\n\
-               Write the operand first, and repeat the rest:\n\n    \
+               Write the operand first, and then repeat the rest:\n\n    \
                sum = { number ~ (\"+\" ~ number)* }",
     },
     Facts {
@@ -127,9 +132,10 @@ static FACTS: [Facts; 29] = [
         report: Report::Error,
         message: "",
         help: None,
-        page: "A repetition may go on without taking a character, and would never end.\n\n    \
+        page: "An iteration of a repetition may consume nothing, and then the repetition would never \
+               end.\n\n    \
                a = { (\"x\"?)* }\n\n\
-               Each turn has to take a character: ANY, but not EOI or \"x\"*.",
+               Each iteration has to consume a character. ANY does so; EOI and \"x\"* do not.",
     },
     Facts {
         code: Code::UnreachableChoice,
@@ -138,8 +144,10 @@ static FACTS: [Facts; 29] = [
         report: Report::Error,
         message: "",
         help: Some("put the alternative that cannot fail last, or remove its `?` or `*`"),
-        page: "An alternative that cannot fail is before others.\n\n    \
-               a = { \"x\"? | \"y\" }\n\nPut it last.",
+        page: "An alternative that cannot fail stands before other alternatives, and so they are never \
+               tried.\n\n    \
+               a = { \"x\"? | \"y\" }\n\n\
+               Move it to the end of the choice.",
     },
     Facts {
         code: Code::TagWithoutToken,
@@ -148,7 +156,7 @@ static FACTS: [Facts; 29] = [
         report: Report::Error,
         message: "",
         help: Some("tag a rule that is not silent, or remove the tag"),
-        page: "A tag is on what produces no pair: a silent rule or a builtin.\n\n    \
+        page: "A tag is on an expression that produces no pair: a silent rule or a builtin.\n\n    \
                a = { #t = ANY }",
     },
     Facts {
@@ -158,10 +166,11 @@ static FACTS: [Facts; 29] = [
         report: Report::Warning,
         message: "this allows nothing in the rule below",
         help: Some("remove the comment"),
-        page: "A comment allows a warning that is not there, or names no code.\n\n    \
-               // pest-lint: allow(pest::idle_test)\n    a = { \"x\" }\n\n\
-               Such a comment is a line right above the rule, and allows one code there; the first 256 of a \
-               text count. Errors cannot be allowed.",
+        page: "A comment allows a warning that does not occur, or it does not name a code.\n\n    \
+               // pest-lint: allow(pest::idle_test)\n    \
+               a = { \"x\" }\n\n\
+               Such a comment is a line directly above the rule, and allows one code for this rule. \
+               Only the first 256 of these comments in a grammar count. Errors cannot be allowed.",
     },
     Facts {
         code: Code::UncalledRule,
@@ -170,13 +179,13 @@ static FACTS: [Facts; 29] = [
         report: Report::Warning,
         message: "this rule is never used",
         help: None,
-        page: "A rule is not needed. It is needed if another rule calls it, if it calls SOI or EOI, if it \
-               is named as a start, or if it is WHITESPACE or COMMENT. Starts are named by --start, or by a \
-               line before the rules:\n\n    \
+        page: "A rule is not needed. A rule is needed if another rule calls it, if it calls SOI or \
+               EOI, if it is named as a start, or if it is WHITESPACE or COMMENT. To name starts, use \
+               --start, or write a line before the rules:\n\n    \
                //! pest-lint: start(file, expression)\n\n\
-               Where no rule calls SOI or EOI, and no start is named, the first rule is taken for the \
-               start, and where that one is called, nothing is reported. --warn all takes no rule for the \
-               start.",
+               If no rule calls SOI or EOI, and no start is named, the first rule is taken for the \
+               start. If another rule calls that first rule, nothing is reported. With --warn all, the \
+               first rule is not taken for the start.",
     },
     Facts {
         code: Code::MissingEnd,
@@ -185,14 +194,14 @@ static FACTS: [Facts; 29] = [
         report: Report::Warning,
         message: "start rule doesn't require EOI, so it can stop before the end of the input",
         help: Some("end its body with `~ EOI` if the whole input is to match"),
-        page: "A rule with which matching starts never asks for the end of the text. Matching then succeeds \
-               on a text that goes on behind the match.\n\n    \
+        page: "A rule with which matching starts never tests for the end of the text. So it also \
+               succeeds on a text that continues after the match.\n\n    \
                file = { SOI ~ line* }\n\n\
-               Write file = { SOI ~ line* ~ EOI }. Such a start is a rule that no other rule calls, if it \
-               calls SOI or is the only such rule of several. EOI, !ANY, ANY* or ANY+ ask for the end, in \
-               it or by a chain of at most 32 calls. Nothing is reported where several starts are named and \
-               no rule asks for the end. This is a hint, not definite: another refusal may also hold only \
-               at the end.",
+               Write file = { SOI ~ line* ~ EOI }. A start here is a rule that no other rule calls, if \
+               it calls SOI, or if it is the only rule of several that is not called. EOI, !ANY, ANY* \
+               and ANY+ test for the end, in the start itself or through at most 32 calls. If several \
+               starts are named and no rule tests for the end, nothing is reported. This warning is a \
+               hint, and not definite: the rule may test for the end in another way.",
     },
     Facts {
         code: Code::UnknownStart,
@@ -201,8 +210,8 @@ static FACTS: [Facts; 29] = [
         report: Report::Warning,
         message: "no rule has this name",
         help: Some("give the names of rules of this grammar"),
-        page: "A comment `//! pest-lint: start(a, b)` gives a start that is no rule of the grammar. Write \
-               the name of a rule, as it is defined.",
+        page: "A comment `//! pest-lint: start(a, b)` names a start that is not a rule of the grammar. \
+               Write the name of a rule as it is defined.",
     },
     Facts {
         code: Code::Unreachable,
@@ -211,10 +220,11 @@ static FACTS: [Facts; 29] = [
         report: Report::Warning,
         message: "unreachable: an earlier alternative matches a prefix of everything this one matches",
         help: None,
-        page: "A literal or a call before an alternative matches a prefix of everything that it matches, so \
-               it is never taken.\n\n    \
-               a = { \"<\" | \"<=\" }\n    b = { name | name ~ \"(\" ~ \")\" }\n\n\
-               Put the longer one first.",
+        page: "An alternative is never taken, because an earlier literal or call matches a prefix of \
+               everything that the alternative matches.\n\n    \
+               a = { \"<\" | \"<=\" }\n    \
+               b = { name | name ~ \"(\" ~ \")\" }\n\n\
+               Put the longer alternative first.",
     },
     Facts {
         code: Code::ReversedRange,
@@ -223,7 +233,7 @@ static FACTS: [Facts; 29] = [
         report: Report::Warning,
         message: "this range is empty: its first character is greater than its last",
         help: Some("swap the bounds"),
-        page: "The first character of a range is above its last.\n\n    \
+        page: "The first character of a range is greater than its last one, so the range is empty.\n\n    \
                a = { 'z'..'a' }",
     },
     Facts {
@@ -233,8 +243,10 @@ static FACTS: [Facts; 29] = [
         report: Report::Warning,
         message: "the first number is greater than the last, and is ignored",
         help: Some("swap the numbers"),
-        page: "The first number of a count is above its last, which alone counts.\n\n    \
-               a = { \"x\"{3,1} }\n\nThis takes one \"x\".",
+        page: "The first number of a count is greater than its last one. Only the last number has an \
+               effect.\n\n    \
+               a = { \"x\"{3,1} }\n\n\
+               This matches one \"x\".",
     },
     Facts {
         code: Code::IdleTest,
@@ -243,9 +255,10 @@ static FACTS: [Facts; 29] = [
         report: Report::Warning,
         message: "this has no effect, since its operand cannot fail",
         help: None,
-        page: "A test or an option holds what cannot fail, and changes nothing.\n\n    \
+        page: "The operand of a test or of an option cannot fail, so the test or the option has no \
+               effect.\n\n    \
                a = { ANY*? ~ \"x\" }\n\n\
-               No repetition is lazy: write (!\"x\" ~ ANY)* for what is before an \"x\".",
+               Repetitions are never lazy. To match everything before an \"x\", write (!\"x\" ~ ANY)*.",
     },
     Facts {
         code: Code::NeverMatches,
@@ -254,10 +267,10 @@ static FACTS: [Facts; 29] = [
         report: Report::Warning,
         message: "this never matches",
         help: None,
-        page: "An expression succeeds on no text.\n\n    \
+        page: "An expression does not succeed on any text.\n\n    \
                a = { ANY* ~ \"x\" }\n\n\
-               ANY* takes the whole rest of the text: write (!\"x\" ~ ANY)* ~ \"x\". And !(e*) always \
-               fails, since e* cannot.",
+               ANY* consumes the whole rest of the text. Write (!\"x\" ~ ANY)* ~ \"x\". Also, !(e*) \
+               always fails, because e* never fails.",
     },
     Facts {
         code: Code::BlanksInToken,
@@ -266,11 +279,12 @@ static FACTS: [Facts; 29] = [
         report: Report::Warning,
         message: "implicit whitespace is allowed between these characters",
         help: Some("make the rule atomic: `name = @{ .. }`"),
-        page: "Where WHITESPACE or COMMENT is defined, it is skipped between the parts of a rule, also \
-               between the characters of a repetition.\n\n    \
-               WHITESPACE = _{ \" \" }\n    word = { ASCII_ALPHA+ }\n\n\
-               This takes a b c as one word. A rule with @ or $ before its brace skips nothing, @ without \
-               the tokens of the rules that it calls:\n\n    \
+        page: "If WHITESPACE or COMMENT is defined, it is skipped between the parts of a rule, and \
+               also between the iterations of a repetition.\n\n    \
+               WHITESPACE = _{ \" \" }\n    \
+               word = { ASCII_ALPHA+ }\n\n\
+               This matches a b c as one word. A rule with @ or $ before its brace skips nothing. With \
+               @, the rules that it calls give no tokens:\n\n    \
                word = @{ ASCII_ALPHA+ }",
     },
     Facts {
@@ -280,11 +294,12 @@ static FACTS: [Facts; 29] = [
         report: Report::Warning,
         message: "the optimizer makes 10,000 copies or more of what this repeats",
         help: Some("put a part of it into a rule of its own: then calls alone are copied"),
-        page: "The optimizer writes counts out, and those of nested repetitions multiply. From 10,000 \
-               copies of an expression on this is reported.\n\n    \
+        page: "The optimizer replaces a count by copies of the expression, and the counts of nested \
+               repetitions multiply. This is reported if an expression has 10,000 copies or more.\n\n    \
                a = { ((\"x\" ~ \"y\"){100} ~ \"z\"){100} }\n\n\
-               A call is copied in place of the rule that it calls:\n\n    \
-               a = { b{100} }\n    b = _{ (\"x\" ~ \"y\"){100} ~ \"z\" }",
+               If the repeated expression is a call, only the call is copied:\n\n    \
+               a = { b{100} }\n    \
+               b = _{ (\"x\" ~ \"y\"){100} ~ \"z\" }",
     },
     Facts {
         code: Code::RepeatedAlternative,
@@ -293,8 +308,8 @@ static FACTS: [Facts; 29] = [
         report: Report::Warning,
         message: "unreachable: this alternative is the same as an earlier one",
         help: Some("remove it, or write what was meant"),
-        page: "An alternative is the same as one before it, so it is never taken. Those of more than 256 \
-               signs are not compared.\n\n    \
+        page: "An alternative is the same as an earlier one, so it is never taken. Alternatives with \
+               more than 256 nodes and characters together are not compared.\n\n    \
                a = { \"x\" ~ b | c | \"x\" ~ b }",
     },
     Facts {
@@ -304,12 +319,14 @@ static FACTS: [Facts; 29] = [
         report: Report::Warning,
         message: "pest runs a list `(x ~ y)* ~ x` of this rule as `x ~ (y ~ x)*`",
         help: Some("so it matches before a `y` that no `x` follows; write what is meant"),
-        page: "The optimizer turns (x ~ y)* ~ x into x ~ (y ~ x)*, which matches more.\n\n    \
-               a = { (b ~ \",\")* ~ b }\n    b = { \"x\" }\n\n\
-               As it is written, this fails on \"x,\"; pest takes the x. An x that cannot fail is not told, \
-               nor is an Atomic rule with (!c ~ n)*. A note gives a text on which the rule ends otherwise, \
-               where a search among short texts finds one; none in a grammar of more than 200 rules. Nothing \
-               is reported of rules that have more than 1,000,000 nodes when counts are written out.",
+        page: "The optimizer rewrites (x ~ y)* ~ x as x ~ (y ~ x)*, which matches more texts.\n\n    \
+               a = { (b ~ \",\")* ~ b }\n    \
+               b = { \"x\" }\n\n\
+               As it is written, this fails on \"x,\", but pest matches the x. Nothing is reported if \
+               x cannot fail, of (!c ~ n)* in an atomic rule, or of rules with more than 1,000,000 \
+               nodes after counts are replaced by copies. If a search among short texts finds one on \
+               which both forms differ, a note shows it. In a grammar of more than 200 rules there is \
+               no search.",
     },
     Facts {
         code: Code::KeywordName,
@@ -320,9 +337,10 @@ static FACTS: [Facts; 29] = [
         help: Some(
             "in Rust it is written `r#name`, which `self`, `Self`, `super` and `crate` can't be",
         ),
-        page: "A rule is named as a keyword of Rust. Reported only with --warn all.\n\n    \
+        page: "The name of a rule is a keyword of Rust. This is reported only with --warn all.\n\n    \
                match = { \"x\" }\n\n\
-               In Rust it is Rule::r#match. A rule named self, Self, super or crate has no name there.",
+               In Rust, this rule is Rule::r#match. A rule with the name self, Self, super or crate \
+               cannot be named in Rust.",
     },
     Facts {
         code: Code::BuiltinName,
@@ -331,9 +349,11 @@ static FACTS: [Facts; 29] = [
         report: Report::OnRequest,
         message: "this name is that of a builtin",
         help: None,
-        page: "A rule is named as a builtin, and takes its place. Or it is named as one of pest 1, as any, \
-               eoi or whitespace, and is a rule like others. Reported only with --warn all.\n\n    \
-               LETTER = { 'a'..'z' }\n    whitespace = _{ \" \" }",
+        page: "A rule has the name of a builtin, and takes its place. Or it has the name of a builtin \
+               of pest 1, such as any, eoi or whitespace, and is a rule like others. This is reported \
+               only with --warn all.\n\n    \
+               LETTER = { 'a'..'z' }\n    \
+               whitespace = _{ \" \" }",
     },
     Facts {
         code: Code::RepeatedBody,
@@ -342,10 +362,12 @@ static FACTS: [Facts; 29] = [
         report: Report::OnRequest,
         message: "a rule before this one has the same type and body",
         help: Some("let one of them call the other, or remove one"),
-        page: "A rule has the type and the body of one before it. Reported only with --warn all, since two \
-               names may be meant. A literal, a call, and more than 256 signs are not compared.\n\n    \
-               count = @{ ASCII_DIGIT+ }\n    number = @{ ASCII_DIGIT+ }\n\n\
-               Let one call the other, or take one away.",
+        page: "A rule has the same type and body as an earlier one. This is reported only with --warn \
+               all, because two names may be intended. A body is not compared if it is a literal or a \
+               call, or if it has more than 256 nodes and characters together.\n\n    \
+               count = @{ ASCII_DIGIT+ }\n    \
+               number = @{ ASCII_DIGIT+ }\n\n\
+               Let one rule call the other, or remove one of them.",
     },
     Facts {
         code: Code::StackRead,
@@ -354,11 +376,11 @@ static FACTS: [Facts; 29] = [
         report: Report::OnRequest,
         message: "the stack is read: the time of a match has no bound that is known",
         help: Some("give each match a limit on steps"),
-        page: "The stack is read. Without it, a match takes a number of turns that is linear in the text \
-               and in its tree. With it, backtracking may take exponential time. Reported only with \
-               --warn all.\n\n    \
+        page: "A rule reads the stack. If no rule uses the stack, the turns of a match are linear in \
+               the text and in its tree. If one does, backtracking may take exponential time. This is \
+               reported only with --warn all.\n\n    \
                quoted = { PUSH(\"'\"+) ~ (!PEEK ~ ANY)* ~ POP }\n\n\
-               Give each match a limit on steps.",
+               Give each match a limit on its steps.",
     },
 ];
 
