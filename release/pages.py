@@ -28,6 +28,7 @@ class Page:
     def __init__(self, name, help_text, others):
         self.name, self.others = name, others
         self.usage, self.about, self.options, self.arguments, self.statuses = "", [], [], [], []
+        self.commands, self.examples = [], []
         for block in re.split(r"\n\s*\n", help_text.strip()):
             self.take(block)
         # The front answers these two, whatever the program knows.
@@ -41,7 +42,8 @@ class Page:
         lines = block.splitlines()
         usage = re.match(r"usage:\s*(.*)", lines[0], re.I)
         status = re.match(r"status:\s*(.*)", " ".join(lines), re.I)
-        titled = {"options:": self.options, "arguments:": self.arguments}.get(lines[0].strip().lower())
+        titles = {"options:": self.options, "arguments:": self.arguments, "commands:": self.commands}
+        titled = titles.get(lines[0].strip().lower())
         if usage:
             self.usage = usage[1]
             self.about += lines[1:]
@@ -50,6 +52,8 @@ class Page:
             self.statuses += [Row(number, text) for number, text in parts]
         elif re.match(r"status\s+when$", lines[0]):
             self.statuses += [Row(*re.split(r"\s{2,}", line.strip(), maxsplit=1)) for line in lines[1:]]
+        elif lines[0].lower() == "examples:":
+            self.examples = lines[1:]
         elif titled is not None:
             titled += [Row(*re.split(r"\s{2,}", line.strip(), maxsplit=1)) for line in lines[1:]]
         else:
@@ -68,10 +72,12 @@ class Page:
         lines += [".SH NAME", f"{roff(self.name)} \\- {roff(brief[0].lower() + brief[1:])}"]
         lines += [".SH SYNOPSIS", ".B " + roff(self.name), roff(self.usage.partition(" ")[2])]
         lines += [".SH DESCRIPTION", *map(roff, about)]
-        for title, rows in (("ARGUMENTS", self.arguments), ("OPTIONS", self.options), ("EXIT STATUS", self.statuses)):
+        parts = {"COMMANDS": self.commands, "ARGUMENTS": self.arguments, "OPTIONS": self.options, "EXIT STATUS": self.statuses}
+        for title, rows in parts.items():
             lines += [f".SH {title}"] if rows else []
             for row in rows:
                 lines += [".TP", ".B " + roff(row.words), roff(row.text)]
+        lines += [".SH EXAMPLES", ".nf", *map(roff, self.examples), ".fi"] if self.examples else []
         lines += [".SH SEE ALSO", *self.references(), ".PP", "/usr/share/doc/kingorewa has the documents.", ""]
         return "\n".join(lines)
 
@@ -91,7 +97,8 @@ class Page:
         lines = [f"# Completion of {self.name} for bash.", f"{function}() {{"]
         lines += ["    case $3 in", *cases, "    esac"] if cases else []
         lines += ["    case $2 in", f"        -*) COMPREPLY=($(compgen -W '{words}' -- \"$2\")) ;;"]
-        lines += ['        *) COMPREPLY=($(compgen -f -- "$2")) ;;', "    esac", "}"]
+        commands = f"$(compgen -W '{' '.join(row.words for row in self.commands)}' -- \"$2\") " if self.commands else ""
+        lines += [f'        *) COMPREPLY=({commands}$(compgen -f -- "$2")) ;;', "    esac", "}"]
         lines += [f"complete -o filenames -F {function} {self.name}", ""]
         return "\n".join(lines)
 
@@ -102,7 +109,9 @@ class Page:
             values = f":{row.value}:({' '.join(row.values)})" if row.values else ""
             brief = quoted(row.brief).replace(":", "\\:")
             lines += [f"    '{option}[{brief}]{values}' \\" for option in row.options]
-        if self.takes_files():
+        if self.commands:
+            lines.append(f"    '1:command:({' '.join(row.words for row in self.commands)})' \\")
+        if self.commands or self.takes_files():
             lines.append("    '*:file:_files'")
         return "\n".join(lines) + "\n"
 
@@ -113,6 +122,8 @@ class Page:
             names = [f"-l {it[2:]}" if it.startswith("--") else f"-s {it[1:]}" for it in row.options]
             values = f" -x -a '{' '.join(row.values)}'" if row.values else ""
             lines.append(f"complete -c {self.name} {' '.join(names)}{values} -d '{quoted(row.brief)}'")
+        for row in self.commands:
+            lines.append(f"complete -c {self.name} -n __fish_use_subcommand -a {row.words} -d '{quoted(row.brief)}'")
         return "\n".join(lines) + "\n"
 
 

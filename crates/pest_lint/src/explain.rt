@@ -46,7 +46,9 @@ pub fn print_page<W: Write, E: Write>(
 
 /// Prints a line for each code to `out`: its name, how it is reported, and what it says; and answers the
 /// status. An allocation may fail (2), and `out` refuse a write (4).
-pub fn print_list<W: Write>(alloc: Global, out: &mut Output<W>) -> u8 {
+pub fn print_list<W: Write>(alloc: Global, out: &mut Output<W>) -> u8
+    ensures known { result ≤ 4 }
+{
     let Ok(list) = list_text(alloc) else {
         return MEMORY;
     };
