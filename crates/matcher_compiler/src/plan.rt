@@ -130,7 +130,7 @@ impl<'p> Plan<'p> {
         if before >= 0xffff_ffff {
             return Err(NotCompiled::Unsupported);
         }
-        let copy = Vec::from_slice(*self.sets.rules.allocator(), ranges.as_slice())?;
+        let copy = Vec::from_slice(*self.sets.byte_sets.allocator(), ranges.as_slice())?;
         let key = key_of(&ranges);
         let number = add_set(&mut self.sets, ranges)?;
         if number as usize >= self.sets.ranges.len() {
