@@ -28,29 +28,29 @@ head = 112 ∷ 101 ∷ 115 ∷ 116 ∷ 3 ∷ 0 ∷ 0 ∷ 0 ∷ []
 abbrev pub IsBlock : List ℕ → Type 0
 IsBlock block = starts_with nat_eq block head ≡ true
 
--- the sum of bytes: FNV-1a of 64 bits
-abbrev pub next_sum : ℕ → ℕ → ℕ
-next_sum sum byte = bit_xor sum byte * 1099511628211 % 2 ^ 64
+-- the checksum of bytes: FNV-1a of 64 bits
+abbrev pub next_checksum : ℕ → ℕ → ℕ
+next_checksum checksum byte = bit_xor checksum byte * 1099511628211 % 2 ^ 64
 
-unfoldable pub sum_of : List ℕ → ℕ
-sum_of bytes = fold next_sum 14695981039346656037 bytes
+unfoldable pub checksum_of : List ℕ → ℕ
+checksum_of bytes = fold next_checksum 14695981039346656037 bytes
 
--- the head goes on with the sum of what follows it
-abbrev pub has_sum : List ℕ → Bool
-has_sum block = starts_with nat_eq (drop 8 block) (to_le_bytes w64 (sum_of (drop 16 block)))
+-- the head goes on with the checksum of what follows it
+abbrev pub has_checksum : List ℕ → Bool
+has_checksum block = starts_with nat_eq (drop 8 block) (to_le_bytes w64 (checksum_of (drop 16 block)))
 
 -- a block of this version, as it was made
 pub record IsWhole (block : List ℕ) : Type 0 where
   pub head : IsBlock block
-  pub sum : has_sum block ≡ true
+  pub checksum : has_checksum block ≡ true
 
--- why bytes are no whole block: they do not begin as one, or they are one of another version, or their sum is
--- another
+-- why bytes are no whole block: they do not begin as one, or they are one of another version, or
+-- their checksum is another
 abbrev pub HasFlaw : List ℕ → BlockFlaw → Type 0
 HasFlaw block flaw.NoBlock = starts_with nat_eq block mark ≡ false
 HasFlaw block flaw.OtherVersion =
     (starts_with nat_eq block mark ≡ true) × (starts_with nat_eq block head ≡ false)
-HasFlaw block flaw.Changed = IsBlock block × (has_sum block ≡ false)
+HasFlaw block flaw.Changed = IsBlock block × (has_checksum block ≡ false)
 
 -- the sections after the head: code for matches, code for names, the names of rules as sections, and the
 -- types of rules

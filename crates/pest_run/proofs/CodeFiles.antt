@@ -17,7 +17,7 @@ begins_marked block h = (starts_is Decides-eqb block mark _ refl).1 _ ((starts_i
 pub no_flaw : (block : List ℕ) (why : BlockFlaw) → IsWhole block → HasFlaw block why → ⊥
 no_flaw block flaw.NoBlock w h = true≢false (sym (begins_marked block w.head) ∙ h)
 no_flaw block flaw.OtherVersion w h = true≢false (sym w.head ∙ h.1)
-no_flaw block flaw.Changed w h = true≢false (sym w.sum ∙ h.1)
+no_flaw block flaw.Changed w h = true≢false (sym w.checksum ∙ h.1)
 
 pub none_why : (block : List ℕ) → starts_with nat_eq block mark ≡ false → codes "it is no compiled grammar" ≡ why_refused block
 none_why block h = rw h refl

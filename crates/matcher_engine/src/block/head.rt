@@ -1,6 +1,6 @@
-//! The head of a block: its version, and the sum of its sections.
+//! The head of a block: its version, and the checksum of its sections.
 ghost use Rattle.std.specs.Prelude.{◌≡◌, IfErr, IfNone, IfOk, IfSome, OnOk, drop};
-ghost use Rattle.matcher_engine.specs.Blocks.{HasFlaw, IsBlock, IsWhole, part_of, sum_of};
+ghost use Rattle.matcher_engine.specs.Blocks.{HasFlaw, IsBlock, IsWhole, part_of, checksum_of};
 
 use format_code::sections::section;
 use std::alloc::{AllocError, Global};
@@ -13,7 +13,7 @@ const MARK: [u8; 4] = [112, 101, 115, 116];
 const HEAD: [u8; 8] = [112, 101, 115, 116, 3, 0, 0, 0];
 
 /// The position of the checksum in a block, in bytes, from 0.
-const SUM: usize = 8;
+const CHECKSUM: usize = 8;
 
 /// The position of the first section in a block, in bytes, from 0.
 const SECTIONS: usize = 16;
@@ -29,15 +29,15 @@ pub enum BlockFlaw {
     Changed,
 }
 
-/// Returns the sum of bytes: FNV-1a of 64 bits.
-fn sum_of(bytes: &[u8]) -> u64
-    ensures { result ≡ sum_of bytes.now }
+/// Returns the checksum of bytes: FNV-1a of 64 bits.
+fn checksum_of(bytes: &[u8]) -> u64
+    ensures { result ≡ checksum_of bytes.now }
 {
-    let mut sum = 14_695_981_039_346_656_037;
+    let mut checksum = 14_695_981_039_346_656_037;
     for byte in bytes {
-        sum = (sum ^ u64::from(*byte)).wrapping_mul(1_099_511_628_211);
+        checksum = (checksum ^ u64::from(*byte)).wrapping_mul(1_099_511_628_211);
     }
-    sum
+    checksum
 }
 
 /// Returns the bytes of `block` from the position `place` on, in bytes. If `place` is after the
@@ -66,7 +66,7 @@ pub(crate) fn with_head(alloc: Global, sections: &[u8]) -> Result<Vec<u8>, Alloc
 {
     let mut block = Vec::new(alloc);
     block.extend_from_slice(&HEAD)?;
-    block.extend_from_slice(&sum_of(sections).to_le_bytes())?;
+    block.extend_from_slice(&checksum_of(sections).to_le_bytes())?;
     block.extend_from_slice(sections)?;
     Ok(block)
 }
@@ -99,8 +99,8 @@ pub fn check_block(block: &[u8]) -> Result<(), BlockFlaw>
     if let Some(flaw) = find_flaw(block) {
         return Err(flaw);
     }
-    let sum = sum_of(bytes_from(block, SECTIONS)).to_le_bytes();
-    if bytes_from(block, SUM).starts_with(&sum) {
+    let checksum = checksum_of(bytes_from(block, SECTIONS)).to_le_bytes();
+    if bytes_from(block, CHECKSUM).starts_with(&checksum) {
         Ok(())
     } else {
         Err(BlockFlaw::Changed)
