@@ -21,5 +21,5 @@ returns-clause-lays c = λ classes fits code laid m.
     (end_outcome_of c.args.program.now classes c.args.at.mode c.requires.bound c.requires.seen)
     (end_performs code (number_in (grammar_in c.args.program.now)) m.fail (mode_of c.args.at.mode) c.args.at.label c.args.at.next c.args.at.on_fail _ _ c.requires.seen
     (c.in_ok-operation.ensures.met c.args.program.now code laid m1)
-    (leaf_rule code _ (end_number c.args.program.now _ c.requires.bound c.end_rule-program_rule.ensures) (c.in_ok-operation-2.ensures.met c.args.program.now code laid m2))
-    (miss_rule code _ (end_number c.args.program.now _ c.requires.bound c.end_rule-program_rule.ensures) (c.in_ok-operation-3.ensures.met c.args.program.now code laid m)))
+    (leaf_rule code _ (end_number c.args.program.now _ c.requires.bound c.end_rule-rule.ensures) (c.in_ok-operation-2.ensures.met c.args.program.now code laid m2))
+    (miss_rule code _ (end_number c.args.program.now _ c.requires.bound c.end_rule-rule.ensures) (c.in_ok-operation-3.ensures.met c.args.program.now code laid m)))
