@@ -169,7 +169,7 @@ fn lint_named(rt: &HostRuntime, matches: &ArgMatches<'_>, names: &[&str]) -> Res
 fn fix_if_asked(
     rt: &HostRuntime,
     is_fixed: bool,
-    sources: &mut Vec<Source>,
+    sources: &mut [Source],
     options: FixOptions<'_>,
 ) -> Result<u8, AllocError>
     ensures known { IfOk result (λ status. status ≤ 4) }
