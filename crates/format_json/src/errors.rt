@@ -124,10 +124,10 @@ fn put_message(
 ) -> Result<(), AllocError>
     ensures { let places = line_col_data error.now.line_col in
         let location = location_data error.now.location in
-        OnOk result (members_view members.new.events
+        OnOk result (members_view members.new.entries
         ≡ with_member (codes "message") (string message.now) (with_member (codes "location") location
         (with_member (codes "line_col") places (with_member (codes "line") (string (error_line error.now))
-        (members_view members.old.events))))) }
+        (members_view members.old.entries))))) }
 {
     put_text(alloc, members, "line", error.line())?;
     put(

@@ -14,8 +14,8 @@ pub(crate) fn put_text(
     name: &str,
     text: &str,
 ) -> Result<(), AllocError>
-    ensures { OnOk result (members_view members.new.events
-        ≡ with_member name.now (string text.now) (members_view members.old.events)) }
+    ensures { OnOk result (members_view members.new.entries
+        ≡ with_member name.now (string text.now) (members_view members.old.entries)) }
 {
     put(members, alloc, name, Value::try_from_str(alloc, text)?)
 }
@@ -27,8 +27,8 @@ pub(crate) fn put_size(
     name: &str,
     size: usize,
 ) -> Result<(), AllocError>
-    ensures { OnOk result (members_view members.new.events
-        ≡ with_member name.now (size_data size) (members_view members.old.events)) }
+    ensures { OnOk result (members_view members.new.entries
+        ≡ with_member name.now (size_data size) (members_view members.old.entries)) }
 {
     put(members, alloc, name, Value::Number(Number::from(size)))
 }
