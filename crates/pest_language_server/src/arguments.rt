@@ -1,9 +1,9 @@
 //! The command line.
 ghost use Rattle.std.specs.Prelude.{◌≡◌, ◌∷◌, [], IfOk, codes};
 ghost use Rattle.clap.specs.Simple.{app_of};
-ghost use Rattle.program_support.specs.Arguments.{arguments_of, flag};
+ghost use Rattle.program_support.specs.Arguments.{HasForm, arguments_of, flag};
 
-use clap::Command;
+use clap::{Arg, Command};
 use program_support::arguments::{add_argument, flag, new_command};
 use std::alloc::{AllocError, Global};
 
@@ -18,6 +18,13 @@ pub fn command<'a>(alloc: Global) -> Result<Command<'a>, AllocError>
 {
     let about = "Shows errors, warnings, hovers and fixes of pest grammars in editors";
     let command = new_command(alloc, "pest-language-server", about, STATUSES)?;
+    add_argument(command, stdio_argument(alloc))
+}
+
+/// `--stdio`.
+fn stdio_argument<'a>(alloc: Global) -> Arg<'a>
+    ensures { HasForm (flag (codes "stdio")) result }
+{
     let help = "Does nothing: messages always come on standard input, and some editors say so";
-    add_argument(command, flag(alloc, "stdio", help))
+    flag(alloc, "stdio", help)
 }
